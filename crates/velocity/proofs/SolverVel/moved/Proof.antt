@@ -1,0 +1,12 @@
+-- `velocity::SolverVel::moved` meets its contract. The new velocity is the definition itself. Assumes nothing.
+use mathlib.Core.Path.{refl}
+use Rattle.velocity.specs.Velocity.{moved}
+use Rattle.velocity.proofs.SolverVel.moved.Statement.{statement}
+use Rattle.velocity.proofs.SolverVel.moved.Tie as tie
+
+returns : tie.Need-returns
+unfolding moved
+returns c = refl
+
+pub moved-spec : {M : Type 1} → statement M
+moved-spec = tie.close (tie.spec returns)
