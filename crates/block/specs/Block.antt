@@ -4,7 +4,7 @@ use mathlib.Core.Bool.{_&&_}
 use mathlib.Core.List.{List, [], _∷_}
 use lib.Ieee.{Float, neg}
 use Rattle.leaves.specs.Floats.{_+f_, _-f_, _*f_, _>f_, _≥f_, if_then_else_, zero}
-use Rattle.leaves.specs.Leaves.{inv}
+use Rattle.leaves.specs.Leaves.{inv, vec}
 use Rattle.leaves.specs.declared.Vec2.{Vec2}
 use Rattle.block.specs.declared.Branch.{Branch}
 use Rattle.block.specs.declared.Branch.the-variants.{Both, OnlyA, OnlyB, Neither, Kept, Degraded}
@@ -23,8 +23,8 @@ branchNumber Kept = 5
 branchNumber Degraded = 6
 
 -- the impulses of a and b, and the branch
-abbrev pub pair : Branch → Float → Float → PairChoice
-pair branch x y = record { branch = branch; impulse = record { x = x; y = y } }
+abbrev pub chose : Branch → Float → Float → PairChoice
+chose branch x y = record { branch = branch; impulse = vec x y }
 
 -- k11 = inv(r_a), k22 = inv(r_b); b1 = dvel_a − k11·p − k12·q, b2 = dvel_b − k12·p − k22·q
 -- (p, q previous impulses); kp11 = k11·inv(cfm_a), kp22 likewise
@@ -48,7 +48,7 @@ both s =
     let f = inv det in
     let x = (s .k12 *f s .b2 -f s .kp22 *f s .b1) *f f in
     let y = (s .k12 *f s .b1 -f s .kp11 *f s .b2) *f f in
-    record { passes = (det >f zero) && (x ≥f zero) && (y ≥f zero); choice = pair Both x y }
+    record { passes = (det >f zero) && (x ≥f zero) && (y ≥f zero); choice = chose Both x y }
 
 -- A only: x = −b1·inv(kp11), passing if x ≥ 0 and b2 + k12·x ≥ 0; b only likewise, with the two points' numbers changed over
 unfoldable pub alone : Float → Float → Float → Float → OnePoint
@@ -59,16 +59,16 @@ alone b kp other k12 =
 unfoldable pub aOnly : System → Candidate
 aOnly s =
     let x = alone (s .b1) (s .kp11) (s .b2) (s .k12) in
-    record { passes = x .passes; choice = pair OnlyA (x .impulse) zero }
+    record { passes = x .passes; choice = chose OnlyA (x .impulse) zero }
 
 unfoldable pub bOnly : System → Candidate
 bOnly s =
     let y = alone (s .b2) (s .kp22) (s .b1) (s .k12) in
-    record { passes = y .passes; choice = pair OnlyB zero (y .impulse) }
+    record { passes = y .passes; choice = chose OnlyB zero (y .impulse) }
 
 -- None: passing if b1 ≥ 0 and b2 ≥ 0
 unfoldable pub neither : System → Candidate
-neither s = record { passes = (s .b1 ≥f zero) && (s .b2 ≥f zero); choice = pair Neither zero zero }
+neither s = record { passes = (s .b1 ≥f zero) && (s .b2 ≥f zero); choice = chose Neither zero zero }
 
 -- First passing wins
 unfoldable pub firstPassing : List Candidate → PairChoice → PairChoice

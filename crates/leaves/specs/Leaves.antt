@@ -4,6 +4,10 @@ use lib.Ieee.{Float, binary32, neg, ofBits}
 use Rattle.leaves.specs.Floats.{_+f_, _*f_, _/f_, _<f_, _>f_, if_then_else_, zero, one}
 use Rattle.leaves.specs.declared.Vec2.{Vec2}
 
+-- two numbers side by side
+abbrev pub vec : Float → Float → Vec2
+vec x y = record { x = x; y = y }
+
 -- dot is x·x + y·y
 unfoldable pub dot : Vec2 → Vec2 → Float
 dot a b = a .x *f b .x +f a .y *f b .y
@@ -26,4 +30,4 @@ inv x = if (neg e <f x) && (x <f e) then zero else one /f x
 
 -- tangent is (−dir.y, dir.x)
 unfoldable pub tangent : Vec2 → Vec2
-tangent dir = record { x = neg (dir .y); y = dir .x }
+tangent dir = vec (neg (dir .y)) (dir .x)

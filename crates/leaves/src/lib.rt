@@ -1,5 +1,5 @@
 // The leaves of document 01's arithmetic: a flat vector, its dot product and tangent, and three
-// functions of one float. Their bodies are not in the Rust that is ported; document 01 gives them.
+// functions of one float. The ported file only calls them; document 01 gives their rules.
 ghost use mathlib.Core.Path.{_≡_};
 ghost use Rattle.leaves.specs.Leaves.{clamp, dot, inv, max0, tangent};
 

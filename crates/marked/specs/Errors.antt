@@ -4,12 +4,12 @@ use mathlib.Core.Path.{_≡_}
 use mathlib.Core.Bool.{false}
 use lib.Ieee.{Float, binary32, neg, eq, ofBits, toBits}
 use Rattle.leaves.specs.Floats.{_-f_, _>f_, half, zero}
-use Rattle.leaves.specs.Leaves.{dot}
+use Rattle.leaves.specs.Leaves.{dot, vec}
 use Rattle.leaves.specs.declared.Vec2.{Vec2}
 use Rattle.velocity.specs.Velocity.{dvel, push, rest}
 use Rattle.velocity.specs.declared.Vels.{Vels}
 use Rattle.normal.specs.Normal.{normal}
-use Rattle.normal.specs.Pair.{pair, pairDvel, vec}
+use Rattle.normal.specs.Pair.{pair, pairDvel}
 use Rattle.normal.specs.declared.ContactConstraintNormalPart.{ContactConstraintNormalPart}
 use Rattle.marked.specs.Numbers.{num, minus, part}
 

@@ -7,16 +7,14 @@ use mathlib.Core.List.{List, [], _∷_}
 use lib.Dec.{eqb}
 use lib.Ieee.{Float, binary32, toBits}
 use Rattle.leaves.specs.Floats.{_/f_, half}
-use Rattle.leaves.specs.Leaves.{clamp, inv}
+use Rattle.leaves.specs.Leaves.{clamp, inv, vec}
 use Rattle.leaves.specs.declared.Vec2.{Vec2}
 use Rattle.velocity.specs.Velocity.{rest}
 use Rattle.velocity.specs.declared.Vels.{Vels}
 use Rattle.block.specs.Block.{branchNumber}
-use Rattle.block.specs.declared.Branch.{Branch}
-use Rattle.block.specs.declared.Branch.the-variants.{Both, OnlyA, OnlyB, Neither, Kept, Degraded}
 use Rattle.block.specs.declared.PairChoice.{PairChoice}
 use Rattle.normal.specs.Normal.{normalImpulse, restitution}
-use Rattle.normal.specs.Pair.{choice, vec}
+use Rattle.normal.specs.Pair.{choice}
 use Rattle.marked.specs.Numbers.{num, minus, part}
 
 -- what a row gives the definitions, and what it says of the result
@@ -29,10 +27,29 @@ pub data Given : Type 0 where
 
 pub data Result : Type 0 where
   number : Float → Result
-  impulses : Branch → Float → Float → Result
+  impulses : (branch : ℕ) → Float → Float → Result
+
+-- "1 both, 2 a only, 3 b only, 4 none, 5 previous kept, 6 degraded": the numbers themselves, so that the table holds the definition to them
+abbrev pub both : ℕ
+both = 1
+
+abbrev pub a-only : ℕ
+a-only = 2
+
+abbrev pub b-only : ℕ
+b-only = 3
+
+abbrev pub none : ℕ
+none = 4
+
+abbrev pub previous-kept : ℕ
+previous-kept = 5
+
+abbrev pub degraded : ℕ
+degraded = 6
 
 abbrev pub chosen : PairChoice → Result
-chosen c = impulses (c .branch) (c .impulse .x) (c .impulse .y)
+chosen c = impulses (branchNumber (c .branch)) (c .impulse .x) (c .impulse .y)
 
 abbrev pub at-rest : Vels
 at-rest = record { v1 = rest; v2 = rest }
@@ -70,16 +87,16 @@ M n examples = record { mark = n; examples = examples }
 
 abbrev pub marks : List Row
 marks =
-    M 1 ((pair-at (minus 5) (minus 3) gives impulses Both (num 2) (num 1)) ∷ []) ∷
-    M 2 ((pair-at (minus 4) (minus 1) gives impulses OnlyA (num 2) (num 0)) ∷ []) ∷
-    M 3 ((pair-at (minus 1) (minus 3) gives impulses OnlyB (num 0) (num 3)) ∷ []) ∷
-    M 4 ((pair-at (num 1) (num 1) gives impulses Neither (num 0) (num 0)) ∷ []) ∷
-    M 5 ((pair-at (num 0) (num 0) gives impulses Both (num 0) (num 0)) ∷ []) ∷
+    M 1 ((pair-at (minus 5) (minus 3) gives impulses both (num 2) (num 1)) ∷ []) ∷
+    M 2 ((pair-at (minus 4) (minus 1) gives impulses a-only (num 2) (num 0)) ∷ []) ∷
+    M 3 ((pair-at (minus 1) (minus 3) gives impulses b-only (num 0) (num 3)) ∷ []) ∷
+    M 4 ((pair-at (num 1) (num 1) gives impulses none (num 0) (num 0)) ∷ []) ∷
+    M 5 ((pair-at (num 0) (num 0) gives impulses both (num 0) (num 0)) ∷ []) ∷
     -- r 1 and 1, k12 −2, p = q = 1, (−2, −2)
-    M 6 ((pair-of (vec (minus 2) (minus 2)) (minus 2) (vec (num 1) (num 1)) (num 1) (num 1) (minus 2) (num 1) gives impulses Kept (num 1) (num 1)) ∷ []) ∷
+    M 6 ((pair-of (vec (minus 2) (minus 2)) (minus 2) (vec (num 1) (num 1)) (num 1) (num 1) (minus 2) (num 1) gives impulses previous-kept (num 1) (num 1)) ∷ []) ∷
     -- flag 0.5, (−5, −3), degraded −5
     M 7 ((pair-of (vec (minus 5) (minus 3)) (minus 5) (vec (num 0) (num 0)) half (num 1) (num 1) half
-    gives impulses Degraded (num 5 /f num 2) half) ∷ []) ∷
+    gives impulses degraded (num 5 /f num 2) half) ∷ []) ∷
     M 8 ((inv-of (num 0) gives number (num 0)) ∷ (inv-of (minus 4) gives number (minus 1 /f num 4)) ∷ []) ∷
     M 9 ((clamp-of (minus 3) (num 1) gives number (minus 1)) ∷ (clamp-of (num 1) (num 1) gives number (num 1)) ∷ []) ∷
     M 10 ((normal-of (num 0) (num 1) half (minus 2) gives number (num 1)) ∷ []) ∷
@@ -94,7 +111,7 @@ abbrev pub agree : Result → Result → Bool
 agree (number x) (number y) = same x y
 agree (number x) (impulses branch y z) = false
 agree (impulses branch x y) (number z) = false
-agree (impulses branch x y) (impulses branch′ x′ y′) = eqb (branchNumber branch) (branchNumber branch′) && same x x′ && same y y′
+agree (impulses branch x y) (impulses branch′ x′ y′) = eqb branch branch′ && same x x′ && same y y′
 
 unfoldable pub all : {A : Type 0} → (A → Bool) → List A → Bool
 all test [] = true

@@ -3,7 +3,7 @@ use mathlib.Core.Path.{_≡_, refl}
 use mathlib.Core.Bool.{true, false, _&&_}
 use lib.Ieee.{Float}
 use Rattle.leaves.specs.Floats.{_+f_, _-f_, _*f_, _<f_, _>f_, zero}
-use Rattle.leaves.specs.Leaves.{dot, max0}
+use Rattle.leaves.specs.Leaves.{dot, max0, vec}
 use Rattle.leaves.specs.declared.Vec2.{Vec2}
 use Rattle.leaves.proofs.Pick.{take, pass}
 use Rattle.velocity.specs.Velocity.{dvel, push}
@@ -11,7 +11,7 @@ use Rattle.velocity.specs.declared.Vels.{Vels}
 use Rattle.block.specs.declared.Branch.the-variants.{Degraded}
 use Rattle.block.specs.declared.PairChoice.{PairChoice}
 use Rattle.normal.specs.Normal.{normal, normalImpulse, normalMoved, normalWith, restitution, restitutionImpulse}
-use Rattle.normal.specs.Pair.{choice, degraded, pairChoice, pairDvel, pairMoved, pairPush, vec}
+use Rattle.normal.specs.Pair.{choice, degraded, pairChoice, pairDvel, pairMoved, pairPush}
 use Rattle.normal.specs.declared.ContactConstraintNormalPart.{ContactConstraintNormalPart}
 use Rattle.normal.specs.declared.NormalSolved.{NormalSolved}
 use Rattle.normal.specs.declared.PairSolved.{PairSolved}

@@ -1,7 +1,7 @@
 -- Document 01, "Arithmetic": the pair, and when its block choice is used. Assumes nothing.
 use lib.Ieee.{Float, neg}
 use Rattle.leaves.specs.Floats.{_+f_, _-f_, _*f_, _>f_, if_then_else_, half}
-use Rattle.leaves.specs.Leaves.{dot}
+use Rattle.leaves.specs.Leaves.{dot, vec}
 use Rattle.leaves.specs.declared.Vec2.{Vec2}
 use Rattle.velocity.specs.Velocity.{dvel, moved}
 use Rattle.velocity.specs.declared.Vels.{Vels}
@@ -11,10 +11,6 @@ use Rattle.block.specs.declared.PairChoice.{PairChoice}
 use Rattle.normal.specs.Normal.{normalImpulse, normalWith}
 use Rattle.normal.specs.declared.ContactConstraintNormalPart.{ContactConstraintNormalPart}
 use Rattle.normal.specs.declared.PairSolved.{PairSolved}
-
--- two numbers side by side, a's and b's
-abbrev pub vec : Float → Float → Vec2
-vec a b = record { x = a; y = b }
 
 -- each dvel is lin + t1·w1 + t2·w2 + rhs
 unfoldable pub pairDvel : Float → ContactConstraintNormalPart → Vels → Float

@@ -1,14 +1,14 @@
 -- Document 01, "Arithmetic": dvel and push, on the velocities v1, w1 and v2, w2 of a contact's two bodies. Assumes nothing.
 use lib.Ieee.{Float, neg}
 use Rattle.leaves.specs.Floats.{_+f_, _-f_, _*f_, zero}
-use Rattle.leaves.specs.Leaves.{dot}
+use Rattle.leaves.specs.Leaves.{dot, vec}
 use Rattle.leaves.specs.declared.Vec2.{Vec2}
 use Rattle.velocity.specs.declared.SolverVel.{SolverVel}
 use Rattle.velocity.specs.declared.Vels.{Vels}
 
 -- zero velocity: every number is plus zero
 unfoldable pub rest : SolverVel
-rest = record { linear = record { x = zero; y = zero }; angular = zero }
+rest = record { linear = vec zero zero; angular = zero }
 
 -- dvel(d, t1, t2, rhs) = dot(d, v1) + t1·w1 − dot(d, v2) + t2·w2 + rhs
 unfoldable pub dvel : Vec2 → Float → Float → Float → Vels → Float
@@ -18,7 +18,7 @@ dvel d t1 t2 rhs v =
 -- one body's share of a push: v += (d times im by component)·l; w += turn
 unfoldable pub moved : SolverVel → Vec2 → Vec2 → Float → Float → SolverVel
 moved v d im l turn = record {
-  linear = record { x = v .linear .x +f d .x *f im .x *f l; y = v .linear .y +f d .y *f im .y *f l };
+  linear = vec (v .linear .x +f d .x *f im .x *f l) (v .linear .y +f d .y *f im .y *f l);
   angular = v .angular +f turn;
 }
 
