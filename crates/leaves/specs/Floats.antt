@@ -7,7 +7,7 @@ use lib.Ieee.{Float, binary32, add, sub, mul, div, lt, le, ofBits}
 infixl 7 _*f_ _/f_
 infixl 6 _+f_ _-f_
 infix 4 _<f_ _>f_ _≥f_
-infix 1 if_then_else_
+infixr 1 if_then_else_
 abbrev pub _+f_ : Float → Float → Float
 x +f y = add binary32 x y
 

@@ -1,2 +1,3 @@
+pub mod Finite
 pub mod Floats
 pub mod Leaves

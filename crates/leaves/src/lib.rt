@@ -1,6 +1,7 @@
 // The leaves of document 01's arithmetic: a flat vector, its dot product and tangent, and three
 // functions of one float. The ported file only calls them; document 01 gives their rules.
 ghost use mathlib.Core.Path.{_≡_};
+ghost use Rattle.leaves.specs.Finite.{finite};
 ghost use Rattle.leaves.specs.Leaves.{clamp, dot, inv, max0, tangent};
 
 pub struct Vec2 {
@@ -59,4 +60,11 @@ pub fn inv(x: f32) -> f32
 {
     let cut = (-Reciprocal::CUTOFF < x) & (x < Reciprocal::CUTOFF);
     if cut { 0.0 } else { 1.0 / x }
+}
+
+// Neither a NaN nor an infinity: only a number taken from itself leaves zero.
+pub fn is_finite(x: f32) -> bool
+    ensures { λ r. ⌜ r ≡ finite x ⌝ }
+{
+    x - x == 0.0
 }

@@ -1,0 +1,89 @@
+-- What a routine's calls come to, over plain values: each premise is what a callee ensures. Assumes nothing.
+use Prim.Native.Nat.{ℕ}
+use mathlib.Core.Path.{_≡_, refl}
+use Rattle.leaves.specs.Floats.{_*f_}
+use Rattle.leaves.specs.Leaves.{tangent}
+use Rattle.leaves.specs.declared.Vec2.{Vec2}
+use Rattle.velocity.specs.declared.Vels.{Vels}
+use Rattle.tangent.specs.Tangent.{friction, tangentWarm, tangentZero}
+use Rattle.tangent.specs.declared.ContactConstraintTangentPart.{ContactConstraintTangentPart}
+use Rattle.tangent.specs.declared.TangentSolved.{TangentSolved}
+use Rattle.block.specs.Block.{branchNumber}
+use Rattle.normal.specs.Normal.{normal, normalWarm, normalZero, restitution}
+use Rattle.normal.specs.Pair.{pair}
+use Rattle.normal.specs.declared.ContactConstraintNormalPart.{ContactConstraintNormalPart}
+use Rattle.normal.specs.declared.NormalSolved.{NormalSolved}
+use Rattle.normal.specs.declared.PairSolved.{PairSolved}
+use Rattle.contact.specs.Contact.{contactZero, headZero, pointZero}
+use Rattle.contact.specs.Kinds.{frictionAt, normalAt, overPoints, pairOf, restitutionAt, turn, warmNormalAt, warmTangentAt}
+use Rattle.contact.specs.declared.Contact.{Contact}
+use Rattle.contact.specs.declared.ContactHead.{ContactHead}
+use Rattle.contact.specs.declared.ContactPoint.{ContactPoint}
+use Rattle.contact.specs.declared.ContactSolved.{ContactSolved}
+use Rattle.contact.specs.declared.PointSolved.{PointSolved}
+use Rattle.contact.specs.declared.Rule.{Rule}
+
+abbrev point-of : ContactConstraintNormalPart → ContactConstraintTangentPart → ContactPoint
+point-of n t = record { «normal_part» = n; «tangent_part» = t }
+
+abbrev contact-of : ContactHead → ContactPoint → ContactPoint → Contact
+contact-of h a b = record { head = h; a = a; b = b }
+
+abbrev point-left : ContactPoint → Vels → PointSolved
+point-left p v = record { point = p; vels = v }
+
+abbrev contact-left : ℕ → Contact → Vels → ContactSolved
+contact-left n c v = record { branch = n; contact = c; vels = v }
+
+-- zero, from the zeros of its parts
+pub zero-point : {n : ContactConstraintNormalPart} {t : ContactConstraintTangentPart} → n ≡ normalZero → t ≡ tangentZero → point-of n t ≡ pointZero
+unfolding pointZero
+zero-point p q = cc
+
+pub zero-contact : {h : ContactHead} {a b : ContactPoint} → h ≡ headZero → a ≡ pointZero → b ≡ pointZero → contact-of h a b ≡ contactZero
+unfolding contactZero
+zero-contact p q s = cc
+
+-- a rule at one point
+module _ (h : ContactHead) (p : ContactPoint) (v : Vels) where
+  pub warmed-normal : {w : Vels} → w ≡ normalWarm (p .«normal_part») (h .dir1) (h .im1) (h .im2) v → point-left p w ≡ warmNormalAt h p v
+  unfolding warmNormalAt
+  warmed-normal e = cc
+
+  pub warmed-tangent : {t : Vec2} {w : Vels} → t ≡ tangent (h .dir1) → w ≡ tangentWarm (p .«tangent_part») t (h .im1) (h .im2) v → point-left p w ≡ warmTangentAt h p v
+  unfolding warmTangentAt
+  warmed-tangent q e = cc
+
+  pub pressed : {s : NormalSolved} → s ≡ normal (p .«normal_part») (h .dir1) (h .im1) (h .im2) v
+      → point-left (point-of (s .part) (p .«tangent_part»)) (s .vels) ≡ normalAt h p v
+  unfolding normalAt
+  pressed e = cc
+
+  pub bounced : {s : NormalSolved} → s ≡ restitution (p .«normal_part») (h .dir1) (h .im1) (h .im2) v
+      → point-left (point-of (s .part) (p .«tangent_part»)) (s .vels) ≡ restitutionAt h p v
+  unfolding restitutionAt
+  bounced e = cc
+
+  pub rubbed : {t : Vec2} {s : TangentSolved} → t ≡ tangent (h .dir1)
+      → s ≡ friction (p .«tangent_part») t (h .im1) (h .im2) (h .friction *f p .«normal_part» .impulse) v
+      → point-left (point-of (p .«normal_part») (s .part)) (s .vels) ≡ frictionAt h p v
+  unfolding frictionAt
+  rubbed q e = cc
+
+-- a rule at both points, and a pair
+module _ (c : Contact) (v : Vels) where
+  pub a-then-b : (rule : Rule) {a b : PointSolved} → a ≡ turn rule 0 (c .head) (c .a) v → b ≡ turn rule 1 (c .head) (c .b) (a .vels)
+      → contact-left 0 (contact-of (c .head) (a .point) (b .point)) (b .vels) ≡ overPoints rule c v
+  unfolding overPoints
+  a-then-b rule p q = cc
+
+  pub twice : (first second : Rule) {s t : ContactSolved} → s ≡ overPoints first c v → t ≡ overPoints second (s .contact) (s .vels)
+      → t ≡ overPoints second (overPoints first c v .contact) (overPoints first c v .vels)
+  twice first second p q = cc
+
+  pub paired : {s : PairSolved} {n : ℕ}
+      → s ≡ pair (c .a .«normal_part») (c .b .«normal_part») (c .head .dir1) (c .head .im1) (c .head .im2) (c .head .k12) (c .head .flag) v
+      → n ≡ branchNumber (s .branch)
+      → contact-left n (contact-of (c .head) (point-of (s .a) (c .a .«tangent_part»)) (point-of (s .b) (c .b .«tangent_part»))) (s .vels) ≡ pairOf c v
+  unfolding pairOf
+  paired e q = cc

@@ -1,0 +1,14 @@
+-- `contact::normal_at` meets its contract. By what the normal part's solve ensures. Assumes nothing.
+use Rattle.contact.proofs.Turns.{pressed}
+use borrow.Author.Needs.{needs}
+use Rattle.contact.proofs.normal_at.Statement.{statement}
+use Rattle.contact.proofs.normal_at.Tie as tie
+
+solve-requires : tie.Need-solve-requires
+solve-requires c κs = search needs
+
+returns : tie.Need-returns
+returns c = search pressed
+
+pub normal-at-spec : {M : Type 1} → statement M
+normal-at-spec = tie.close (tie.spec solve-requires returns)

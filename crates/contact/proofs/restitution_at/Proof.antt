@@ -1,0 +1,14 @@
+-- `contact::restitution_at` meets its contract. By what the normal part's restitution ensures. Assumes nothing.
+use Rattle.contact.proofs.Turns.{bounced}
+use borrow.Author.Needs.{needs}
+use Rattle.contact.proofs.restitution_at.Statement.{statement}
+use Rattle.contact.proofs.restitution_at.Tie as tie
+
+solve-restitution-requires : tie.Need-solve-restitution-requires
+solve-restitution-requires c κs = search needs
+
+returns : tie.Need-returns
+returns c = search bounced
+
+pub restitution-at-spec : {M : Type 1} → statement M
+restitution-at-spec = tie.close (tie.spec solve-restitution-requires returns)

@@ -1,0 +1,3 @@
+pub mod Contact
+pub mod Kinds
+pub mod Writes

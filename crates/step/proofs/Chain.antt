@@ -1,0 +1,44 @@
+-- A chain of conditions, one at a time, over what a check found. Assumes nothing.
+use Prim.Native.Nat.{ℕ}
+use mathlib.Core.Path.{_≡_, refl}
+use mathlib.Core.Bool.{Bool, true, false}
+use mathlib.Core.List.{List, [], _∷_}
+use Rattle.leaves.proofs.Pick.{take, pass}
+use Rattle.velocity.specs.declared.Vels.{Vels}
+use Rattle.contact.specs.Kinds.{routine}
+use Rattle.contact.specs.declared.Contact.{Contact}
+use Rattle.contact.specs.declared.ContactSolved.{ContactSolved}
+use Rattle.checks.specs.Checks.{unwritable}
+use Rattle.step.specs.Step.{Condition, _when_, asRead, asWritten, firstOr, step, tried}
+use Rattle.step.specs.declared.Outcome.{Outcome}
+use Rattle.step.specs.declared.Outcome.the-variants.{Done, Refused}
+
+module _ (n : ℕ) (cs : List Condition) (done : ContactSolved) {r b : Bool} (found : r ≡ b) where
+  -- the check found that its condition holds
+  pub hit : r ≡ true → Refused n ≡ firstOr (n when b ∷ cs) done
+  unfolding firstOr
+  hit t = rw (← found) (take _ t refl)
+
+  -- it does not hold, and the later ones are judged right
+  pub miss : {o : Outcome} → r ≡ false → o ≡ firstOr cs done → o ≡ firstOr (n when b ∷ cs) done
+  unfolding firstOr
+  miss t later = rw (← found) (pass _ t later)
+
+-- no condition is left
+done : (s : ContactSolved) → Done s ≡ firstOr [] s
+unfolding firstOr
+done s = refl
+
+-- the routine's result, by whether it can be written
+module _ (c : Contact) (kind : ℕ) (v : Vels) {s : ContactSolved} (made : s ≡ routine kind c v) {r : Bool} (found : r ≡ unwritable kind s) where
+  pub lost : r ≡ true → Refused 10 ≡ firstOr (10 when unwritable kind (routine kind c v) ∷ []) (routine kind c v)
+  lost t = rw (← made) (hit 10 [] s found t)
+
+  pub good : r ≡ false → Done s ≡ firstOr (10 when unwritable kind (routine kind c v) ∷ []) (routine kind c v)
+  good t = rw (← made) (miss 10 [] s found t (done s))
+
+-- a step: read, tried, written
+pub read-and-written : (c : Contact) (kind : ℕ) (v seen : Vels) (rows : ℕ) (tried-to : Outcome) {o : Outcome} → seen ≡ asRead (c .head) v
+    → tried-to ≡ tried c kind seen rows → o ≡ asWritten (c .head) v tried-to → o ≡ step c kind v rows
+unfolding step
+read-and-written c kind v seen rows tried-to p q e = cc

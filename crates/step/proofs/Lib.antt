@@ -1,0 +1,3 @@
+pub mod Chain
+pub mod Exact
+pub mod Promises
