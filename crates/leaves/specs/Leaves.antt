@@ -18,7 +18,7 @@ max0 x = if x >f zero then x else zero
 
 -- clamp(x, L): below −L gives −L; else above L gives L; a number at or inside the two ends is kept, and so is NaN
 unfoldable pub clamp : Float → Float → Float
-clamp x L = if x <f neg L then neg L else (if x >f L then L else x)
+clamp x L = if x <f neg L then neg L else if x >f L then L else x
 
 -- e is f32 1e-20 (bits 1e3ce508)
 abbrev pub e : Float

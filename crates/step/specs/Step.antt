@@ -44,7 +44,7 @@ abbrev pub _when_ : ℕ → Bool → Condition
 n when b = record { number = n; holds = b }
 
 -- "Given exactly when", in number order; v is the velocities as they read. 10 looks at what the routine would write, the others at
--- what was given. A kind above 4 is refused with the whole call, before any step; 3 stands here so that a step is one of any kind
+-- what was given. A kind above 4 is refused with the whole call, before any step; 3 stands here so that a step of any kind is answered
 unfoldable pub conditions : Contact → ℕ → Vels → ℕ → List Condition
 conditions c kind v rows =
     3 when kindAbove kind

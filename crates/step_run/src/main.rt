@@ -132,6 +132,24 @@ fn with_floor(mut c: Contact, im: f32, ii: f32) -> Contact {
     c
 }
 
+// Body 0 at rest on body 1, which is three times as light.
+fn on_body() -> Contact {
+    let mut c = with_bodies(on_floor(), 0, 1);
+    c.head.im2.x = 3.0;
+    c.head.im2.y = 3.0;
+    c
+}
+
+fn second_rising(rise: f32) -> Vels {
+    Vels {
+        v1: SolverVel::zero(),
+        v2: SolverVel {
+            linear: Vec2 { x: 0.0, y: rise },
+            angular: 0.0,
+        },
+    }
+}
+
 // What is given for the second body.
 fn with_second(mut vels: Vels, turning: f32) -> Vels {
     vels.v2.angular = turning;
@@ -177,6 +195,51 @@ fn say(right: bool, line: &[u8]) {
         io::write_all(STDOUT_FILENO, b"not as worked out: ");
     }
     io::write_all(STDOUT_FILENO, line);
+}
+
+// Whether a done step leaves this turning of body 0, and this tangent impulse at b.
+fn leaves_last(outcome: Outcome, turning: f32, tangent: f32) -> bool {
+    match outcome {
+        Outcome::Refused(_) => false,
+        Outcome::Done(solved) => {
+            let b = solved.contact.b;
+            let v = solved.vels.v1;
+            (v.angular == turning) & (b.tangent_part.impulse == tangent)
+        }
+    }
+}
+
+// Two points whose pushes turn body 0 by 2^24 and back, and a rub that turns it by 1: in any other
+// order than normal a, normal b, tangent a the 1 is rounded away.
+fn turning_points() -> Contact {
+    let mut c = on_two_points();
+    let back = -16777216.0;
+    c.a.normal_part.impulse = 1.0;
+    c.a.normal_part.ii_torque_dir1 = 16777216.0;
+    c.b.normal_part.impulse = 1.0;
+    c.b.normal_part.ii_torque_dir1 = back;
+    c.a.tangent_part.impulse = 1.0;
+    c.a.tangent_part.ii_torque_dir1 = 1.0;
+    c
+}
+
+// Two points that push 2 and 4 and slide with friction 0.5.
+fn rubbing_points() -> Contact {
+    let mut c = with_friction(on_two_points(), 0.5);
+    c.a.normal_part.impulse = 2.0;
+    c.b.normal_part.impulse = 4.0;
+    c
+}
+
+fn both_points() {
+    say(
+        leaves_last(step(turning_points(), 0, falling(), ROWS), 1.0, 0.0),
+        b"kind 0 pushes both normal parts before it rubs: turns at 1\n",
+    );
+    say(
+        leaves_last(step(rubbing_points(), 2, moving(10.0, 0.0), ROWS), 0.0, 2.0),
+        b"kind 2 rubs 2 at b, half of what b pushes\n",
+    );
 }
 
 fn kinds() {
@@ -302,6 +365,18 @@ fn edges_of_reading() {
     show(b"a NaN given for the floor", on_floor(), 1, wild);
     let two_bodies = with_bodies(on_floor(), 0, 1);
     show(b"a NaN at a real second body", two_bodies, 1, wild);
+    show(
+        b"a second body that rises at 1",
+        on_body(),
+        1,
+        second_rising(1.0),
+    );
+    show(
+        b"too hard for the second body alone",
+        on_body(),
+        1,
+        second_rising(LARGE),
+    );
     let unlimited = with_friction(with_impulse(on_floor(), LARGE), LARGE);
     show(b"a limit that is infinite", unlimited, 2, moving(3.0, 0.0));
     let pair = with_rhs(on_two_points(), -5.0, -3.0);
@@ -310,6 +385,7 @@ fn edges_of_reading() {
 
 fn main() {
     kinds();
+    both_points();
     choices();
     edges_of_bodies();
     edges_of_range();

@@ -1,6 +1,5 @@
 -- `checks::lost_impulse` meets its contract. By what is_finite ensures of the two impulses. Assumes nothing.
-use Rattle.checks.specs.Checks.{lostImpulse}
-use Rattle.checks.proofs.Parts.{both, either, other}
+use Rattle.checks.proofs.Parts.{is-lost}
 use borrow.Author.Needs.{needs}
 use Rattle.checks.proofs.lost_impulse.Statement.{statement}
 use Rattle.checks.proofs.lost_impulse.Tie as tie
@@ -12,8 +11,7 @@ is-finite-requires-2 : tie.Need-is-finite-requires-2
 is-finite-requires-2 c κs = search needs
 
 returns : tie.Need-returns
-unfolding lostImpulse
-returns c = search (both, either, other) depth 12
+returns c = search is-lost
 
 pub lost-impulse-spec : {M : Type 1} → statement M
 lost-impulse-spec = tie.close (tie.spec is-finite-requires is-finite-requires-2 returns)

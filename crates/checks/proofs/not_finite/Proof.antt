@@ -1,6 +1,5 @@
 -- `checks::not_finite` meets its contract. By what the tests of the head, the points and the velocities ensure. Assumes nothing.
-use Rattle.checks.specs.Checks.{notFinite}
-use Rattle.checks.proofs.Parts.{either, other, points}
+use Rattle.checks.proofs.Parts.{is-8}
 use borrow.Author.Needs.{needs}
 use Rattle.checks.proofs.not_finite.Statement.{statement}
 use Rattle.checks.proofs.not_finite.Tie as tie
@@ -24,8 +23,7 @@ finite-vel-requires-2 : tie.Need-finite-vel-requires-2
 finite-vel-requires-2 c κs = search needs
 
 returns : tie.Need-returns
-unfolding notFinite
-returns c = search (either, other, points) depth 12
+returns c = search is-8
 
 pub not-finite-spec : {M : Type 1} → statement M
 not-finite-spec =

@@ -1,6 +1,5 @@
 -- `checks::out_of_range` meets its contract. By what the tests of the head and the points ensure. Assumes nothing.
-use Rattle.checks.specs.Checks.{outOfRange}
-use Rattle.checks.proofs.Parts.{either, points}
+use Rattle.checks.proofs.Parts.{is-9}
 use borrow.Author.Needs.{needs}
 use Rattle.checks.proofs.out_of_range.Statement.{statement}
 use Rattle.checks.proofs.out_of_range.Tie as tie
@@ -18,8 +17,7 @@ below-count-requires : tie.Need-below-count-requires
 below-count-requires c κs = search needs
 
 returns : tie.Need-returns
-unfolding outOfRange
-returns c = search (either, points) depth 12
+returns c = search is-9
 
 pub out-of-range-spec : {M : Type 1} → statement M
 out-of-range-spec =

@@ -1,6 +1,5 @@
 -- `checks::unwritable` meets its contract. By what the tests of the velocities and the points ensure. Assumes nothing.
-use Rattle.checks.specs.Checks.{unwritable}
-use Rattle.checks.proofs.Parts.{both, either, other, points}
+use Rattle.checks.proofs.Parts.{is-10}
 use borrow.Author.Needs.{needs}
 use Rattle.checks.proofs.unwritable.Statement.{statement}
 use Rattle.checks.proofs.unwritable.Tie as tie
@@ -21,8 +20,7 @@ below-count-requires : tie.Need-below-count-requires
 below-count-requires c κs = search needs
 
 returns : tie.Need-returns
-unfolding unwritable
-returns c = search (both, either, other, points) depth 12
+returns c = search is-10
 
 pub unwritable-spec : {M : Type 1} → statement M
 unwritable-spec =
