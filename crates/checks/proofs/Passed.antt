@@ -3,8 +3,9 @@ use Prim.Native.Nat.{ℕ, _<_}
 use native.Mathlib.Omega.{arith}
 use mathlib.Core.Path.{_≡_, refl, sym, ap, _∙_}
 use mathlib.Core.Bool.{Bool, true, false, not, _&&_, _||_}
-use borrow.Author.Tests.{eq-eqb, eqb-true, eqb-false}
+use borrow.Author.Tests.{eq-eqb, eqb-true}
 use lib.Dec.{eqb, ltb}
+use Rattle.leaves.proofs.Pick.{never}
 use Rattle.leaves.specs.Finite.{finite}
 use Rattle.velocity.specs.declared.Vels.{Vels}
 use Rattle.tangent.specs.declared.ContactConstraintTangentPart.{ContactConstraintTangentPart}
@@ -17,9 +18,6 @@ use Rattle.contact.specs.declared.ContactHead.{ContactHead}
 use Rattle.contact.specs.declared.ContactPoint.{ContactPoint}
 use Rattle.contact.specs.declared.ContactSolved.{ContactSolved}
 use Rattle.checks.specs.Checks.{belowCount, finiteHead, finiteNormal, finitePoint, finiteTangent, finiteVel, lostImpulse, lostVel, notFinite, pairOfOne, somePoint, unwritable, wrongCount}
-
-never : {A : Type 0} → true ≡ false → A
-never e = absurd (let z : _≡_ {A = ℕ} 0 1 = cc in omega arith)
 
 -- tests that fail, and tests that pass, taken apart
 none-l : (p q : Bool) → (p || q) ≡ false → p ≡ false

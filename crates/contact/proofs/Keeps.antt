@@ -10,16 +10,14 @@ use Rattle.leaves.specs.Floats.{_*f_}
 use Rattle.leaves.specs.Leaves.{tangent}
 use Rattle.velocity.specs.declared.Vels.{Vels}
 use Rattle.tangent.proofs.Keeps.{friction-keeps}
-use Rattle.tangent.specs.declared.ContactConstraintTangentPart.{ContactConstraintTangentPart}
 use Rattle.normal.proofs.Keeps.{normal-keeps, pair-keeps, restitution-keeps}
 use Rattle.normal.specs.declared.ContactConstraintNormalPart.{ContactConstraintNormalPart}
 use Rattle.contact.proofs.Places.{Place, at-a, at-b, number, point}
-use Rattle.contact.specs.Kinds.{atPoint, frictionAt, normalAt, overPoints, pairOf, restitutionAt, routine, turn, warmNormalAt, warmStart, warmTangentAt}
+use Rattle.contact.specs.Kinds.{atPoint, frictionAt, normalAt, normalLeft, overPoints, pairOf, restitutionAt, routine, turn, warmNormalAt, warmStart, warmTangentAt}
 use Rattle.contact.specs.Writes.{presses, rubs, stored, storedAt}
 use Rattle.contact.specs.declared.Contact.{Contact}
 use Rattle.contact.specs.declared.ContactHead.{ContactHead}
 use Rattle.contact.specs.declared.ContactPoint.{ContactPoint}
-use Rattle.contact.specs.declared.PointSolved.{PointSolved}
 use Rattle.contact.specs.declared.Rule.{Rule}
 use Rattle.contact.specs.declared.Rule.the-variants.{WarmNormal, WarmTangent, Normal, Friction, Restitution}
 
@@ -41,7 +39,7 @@ stores-tangent Restitution = false
 module _ (h : ContactHead) (p : ContactPoint) (v : Vels) where
   -- at one point
   at-keeps : (rule : Rule) → atPoint rule h p v .point ≡ storedAt (stores-normal rule) (stores-tangent rule) p (atPoint rule h p v .point)
-  unfolding atPoint storedAt warmNormalAt warmTangentAt normalAt frictionAt restitutionAt
+  unfolding atPoint storedAt warmNormalAt warmTangentAt normalAt normalLeft frictionAt restitutionAt
   at-keeps WarmNormal = refl
   at-keeps WarmTangent = refl
   at-keeps Normal = cc (normal-keeps (p .«normal_part») (h .dir1) (h .im1) (h .im2) v)

@@ -1,6 +1,6 @@
 -- What a routine's calls come to, over plain values: each premise is what a callee ensures. Assumes nothing.
 use Prim.Native.Nat.{ℕ}
-use mathlib.Core.Path.{_≡_, refl}
+use mathlib.Core.Path.{_≡_}
 use Rattle.leaves.specs.Floats.{_*f_}
 use Rattle.leaves.specs.Leaves.{tangent}
 use Rattle.leaves.specs.declared.Vec2.{Vec2}
@@ -9,13 +9,13 @@ use Rattle.tangent.specs.Tangent.{friction, tangentWarm, tangentZero}
 use Rattle.tangent.specs.declared.ContactConstraintTangentPart.{ContactConstraintTangentPart}
 use Rattle.tangent.specs.declared.TangentSolved.{TangentSolved}
 use Rattle.block.specs.Block.{branchNumber}
-use Rattle.normal.specs.Normal.{normal, normalWarm, normalZero, restitution}
+use Rattle.normal.specs.Normal.{normalWarm, normalZero}
 use Rattle.normal.specs.Pair.{pair}
 use Rattle.normal.specs.declared.ContactConstraintNormalPart.{ContactConstraintNormalPart}
 use Rattle.normal.specs.declared.NormalSolved.{NormalSolved}
 use Rattle.normal.specs.declared.PairSolved.{PairSolved}
 use Rattle.contact.specs.Contact.{contactZero, headZero, pointZero}
-use Rattle.contact.specs.Kinds.{frictionAt, normalAt, overPoints, pairOf, restitutionAt, turn, warmNormalAt, warmTangentAt}
+use Rattle.contact.specs.Kinds.{frictionAt, normalLeft, overPoints, pairOf, turn, warmNormalAt, warmTangentAt}
 use Rattle.contact.specs.declared.Contact.{Contact}
 use Rattle.contact.specs.declared.ContactHead.{ContactHead}
 use Rattle.contact.specs.declared.ContactPoint.{ContactPoint}
@@ -54,21 +54,15 @@ module _ (h : ContactHead) (p : ContactPoint) (v : Vels) where
   unfolding warmTangentAt
   warmed-tangent q e = cc
 
-  pub pressed : {s : NormalSolved} → s ≡ normal (p .«normal_part») (h .dir1) (h .im1) (h .im2) v
-      → point-left (point-of (s .part) (p .«tangent_part»)) (s .vels) ≡ normalAt h p v
-  unfolding normalAt
-  pressed e = cc
-
-  pub bounced : {s : NormalSolved} → s ≡ restitution (p .«normal_part») (h .dir1) (h .im1) (h .im2) v
-      → point-left (point-of (s .part) (p .«tangent_part»)) (s .vels) ≡ restitutionAt h p v
-  unfolding restitutionAt
-  bounced e = cc
-
   pub rubbed : {t : Vec2} {s : TangentSolved} → t ≡ tangent (h .dir1)
       → s ≡ friction (p .«tangent_part») t (h .im1) (h .im2) (h .friction *f p .«normal_part» .impulse) v
       → point-left (point-of (p .«normal_part») (s .part)) (s .vels) ≡ frictionAt h p v
   unfolding frictionAt
   rubbed q e = cc
+
+-- a normal part solved, by whichever rule
+pub left-by : (p : ContactPoint) (rule : NormalSolved) {s : NormalSolved} {r : PointSolved} → s ≡ rule → r ≡ normalLeft p s → r ≡ normalLeft p rule
+left-by p rule e q = cc
 
 -- a rule at both points, and a pair
 module _ (c : Contact) (v : Vels) where

@@ -9,6 +9,7 @@ use Rattle.tangent.specs.Tangent.{friction, tangentWarm}
 use Rattle.block.specs.Block.{branchNumber}
 use Rattle.normal.specs.Normal.{normal, normalWarm, restitution}
 use Rattle.normal.specs.Pair.{pair}
+use Rattle.normal.specs.declared.NormalSolved.{NormalSolved}
 use Rattle.contact.specs.declared.Contact.{Contact}
 use Rattle.contact.specs.declared.ContactHead.{ContactHead}
 use Rattle.contact.specs.declared.ContactPoint.{ContactPoint}
@@ -25,11 +26,13 @@ warmNormalAt h p v = record { point = p; vels = normalWarm (p .«normal_part») 
 unfoldable pub warmTangentAt : ContactHead → ContactPoint → Vels → PointSolved
 warmTangentAt h p v = record { point = p; vels = tangentWarm (p .«tangent_part») (tangent (h .dir1)) (h .im1) (h .im2) v }
 
+-- a point whose normal part was solved
+unfoldable pub normalLeft : ContactPoint → NormalSolved → PointSolved
+normalLeft p s = record { point = record { «normal_part» = s .part; «tangent_part» = p .«tangent_part» }; vels = s .vels }
+
 -- Normal, per point
 unfoldable pub normalAt : ContactHead → ContactPoint → Vels → PointSolved
-normalAt h p v =
-    let s = normal (p .«normal_part») (h .dir1) (h .im1) (h .im2) v in
-    record { point = record { «normal_part» = s .part; «tangent_part» = p .«tangent_part» }; vels = s .vels }
+normalAt h p v = normalLeft p (normal (p .«normal_part») (h .dir1) (h .im1) (h .im2) v)
 
 -- Friction, per point: L = friction · that point's normal impulse
 unfoldable pub frictionAt : ContactHead → ContactPoint → Vels → PointSolved
@@ -40,9 +43,7 @@ frictionAt h p v =
 
 -- Restitution, per point
 unfoldable pub restitutionAt : ContactHead → ContactPoint → Vels → PointSolved
-restitutionAt h p v =
-    let s = restitution (p .«normal_part») (h .dir1) (h .im1) (h .im2) v in
-    record { point = record { «normal_part» = s .part; «tangent_part» = p .«tangent_part» }; vels = s .vels }
+restitutionAt h p v = normalLeft p (restitution (p .«normal_part») (h .dir1) (h .im1) (h .im2) v)
 
 unfoldable pub atPoint : Rule → ContactHead → ContactPoint → Vels → PointSolved
 atPoint WarmNormal = warmNormalAt

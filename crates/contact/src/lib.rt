@@ -3,12 +3,13 @@
 // b here. A routine takes the contact and the two velocities by value and gives the new ones back.
 use leaves::Vec2;
 use normal::ContactConstraintNormalPart;
+use normal::NormalSolved;
 use tangent::ContactConstraintTangentPart;
 use velocity::Vels;
 ghost use mathlib.Core.Path.{_≡_};
 ghost use Rattle.contact.specs.Contact.{contactZero, headZero, pointZero};
 ghost use Rattle.contact.specs.Kinds.{atPoint, overPoints, pairOf, routine, turn, warmStart};
-ghost use Rattle.contact.specs.Kinds.{frictionAt, normalAt, restitutionAt};
+ghost use Rattle.contact.specs.Kinds.{frictionAt, normalAt, normalLeft, restitutionAt};
 ghost use Rattle.contact.specs.Kinds.{warmNormalAt, warmTangentAt};
 
 // The number of the floor: it reads as rest and is never written.
@@ -143,21 +144,27 @@ fn warm_tangent_at(head: ContactHead, point: ContactPoint, vels: Vels) -> PointS
     }
 }
 
-fn normal_at(head: ContactHead, point: ContactPoint, vels: Vels) -> PointSolved
-    ensures { λ r. ⌜ r ≡ normalAt head point vels ⌝ }
+// A point whose normal part was solved.
+fn normal_left(point: ContactPoint, solved: NormalSolved) -> PointSolved
+    ensures { λ r. ⌜ r ≡ normalLeft point solved ⌝ }
 {
-    let part = point.normal_part;
-    let tangent_part = point.tangent_part;
-    let solved = part.solve(head.dir1, head.im1, head.im2, vels);
     let normal_part = solved.part;
-    let pushed = solved.vels;
+    let tangent_part = point.tangent_part;
+    let vels = solved.vels;
     PointSolved {
         point: ContactPoint {
             normal_part,
             tangent_part,
         },
-        vels: pushed,
+        vels,
     }
+}
+
+fn normal_at(head: ContactHead, point: ContactPoint, vels: Vels) -> PointSolved
+    ensures { λ r. ⌜ r ≡ normalAt head point vels ⌝ }
+{
+    let part = point.normal_part;
+    normal_left(point, part.solve(head.dir1, head.im1, head.im2, vels))
 }
 
 fn friction_at(head: ContactHead, point: ContactPoint, vels: Vels) -> PointSolved
@@ -183,17 +190,10 @@ fn restitution_at(head: ContactHead, point: ContactPoint, vels: Vels) -> PointSo
     ensures { λ r. ⌜ r ≡ restitutionAt head point vels ⌝ }
 {
     let part = point.normal_part;
-    let tangent_part = point.tangent_part;
-    let solved = part.solve_restitution(head.dir1, head.im1, head.im2, vels);
-    let normal_part = solved.part;
-    let pushed = solved.vels;
-    PointSolved {
-        point: ContactPoint {
-            normal_part,
-            tangent_part,
-        },
-        vels: pushed,
-    }
+    normal_left(
+        point,
+        part.solve_restitution(head.dir1, head.im1, head.im2, vels),
+    )
 }
 
 impl Contact {

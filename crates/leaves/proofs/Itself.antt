@@ -1,8 +1,8 @@
 -- A value taken from itself is zero exactly where it is finite. Assumes nothing.
 use Prim.Native.Nat.{ℕ, _-_, _*_, _<_}
 use native.Mathlib.Nat.{mul-pos, eq-of-mul-eq-mul-right, zero-mul, sub-self}
-use mathlib.Core.Path.{_≡_, refl, sym, ap, _∙_}
-use mathlib.Core.Bool.{Bool, true, false, cond, _&&_}
+use mathlib.Core.Path.{_≡_, refl, sym, _∙_}
+use mathlib.Core.Bool.{true, false}
 use borrow.Author.Tests.{le-ltb}
 use native.Mathlib.Omega.{arith}
 use lib.Dec.{ltb, lit<}

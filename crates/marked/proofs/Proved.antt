@@ -6,7 +6,7 @@ use Rattle.leaves.specs.Leaves.{dot, max0, clamp, inv}
 use Rattle.velocity.specs.Velocity.{dvel, moved, push, rest}
 use Rattle.block.specs.Block.{system, both, alone, aOnly, bOnly, neither, firstPassing, candidates, kept, blockChoice}
 use Rattle.normal.specs.Normal.{normalImpulse, normalWith, normalMoved, normal, restitutionImpulse, restitution}
-use Rattle.normal.specs.Pair.{choice, degraded, pair, pairChoice, pairDvel, pairMoved, pairPush}
+use Rattle.normal.specs.Pair.{choice, degraded, pair, pairChoice, pairDvel, pairMoved}
 use Rattle.marked.specs.Numbers.{num}
 use Rattle.marked.specs.Marks.{Marked, all, outcome, at-rest}
 use Rattle.marked.specs.Errors.{DegradedA, DegradedB, LinFirst, ZeroPush, point, up, ones, none, sinking, tiny, b-in-pair, b-by-kind-1}

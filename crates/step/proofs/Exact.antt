@@ -2,10 +2,11 @@
 use Prim.Native.Nat.{ℕ, _<_, _≤_}
 use native.Mathlib.Omega.{arith}
 use mathlib.Core.Path.{_≡_, refl, sym, ap, _∙_}
-use mathlib.Core.Bool.{Bool, true, false, _&&_, _||_, cond}
+use mathlib.Core.Bool.{Bool, true, false, _&&_, _||_}
 use mathlib.Core.List.{List, [], _∷_}
 use borrow.Author.Tests.{eq-eqb, ne-eqb, ltb-true, ltb-false}
 use lib.Dec.{eqb, ltb}
+use Rattle.leaves.proofs.Pick.{never}
 use Rattle.contact.specs.declared.ContactSolved.{ContactSolved}
 use Rattle.step.specs.Promises.{Exactly, FirstOf, holdsFor}
 use Rattle.step.specs.Step.{Condition, answer, firstOr}
@@ -15,9 +16,6 @@ use Rattle.step.specs.declared.Outcome.the-variants.{Refused}
 abbrev pub Rising : ℕ → List Condition → Type 0
 Rising k [] = Unit
 Rising k (c ∷ cs) = (k < c .number) × Rising (c .number) cs
-
-never : {A : Type 0} (b : Bool) → b ≡ true → b ≡ false → A
-never b t f = let z : _≡_ {A = Bool} true false = sym t ∙ f in absurd (let y : _≡_ {A = ℕ} 0 1 = cc in omega arith)
 
 -- the first of a list, and what the list says of a number, by whether the first holds
 module _ (c : Condition) (cs : List Condition) where
@@ -66,8 +64,8 @@ module _ (k : ℕ) (c : Condition) (cs : List Condition) (up : Rising k (c ∷ c
   only-first n f = by-order (ltb n (c .number)) (ltb (c .number) n) refl refl
     where
       by-order : (below above : Bool) → ltb n (c .number) ≡ below → ltb (c .number) n ≡ above → c .number ≡ n
-      by-order true above b a = never (holdsFor n (c ∷ cs)) (f .0) (before n (ltb-true n (c .number) b))
-      by-order false true b a = never (holdsFor (c .number) (c ∷ cs)) (own c cs h) (f .1 (c .number) (ltb-true (c .number) n a))
+      by-order true above b a = never (sym (f .0) ∙ before n (ltb-true n (c .number) b))
+      by-order false true b a = never (sym (own c cs h) ∙ f .1 (c .number) (ltb-true (c .number) n a))
       by-order false false b a =
           let p : c .number ≤ n = ltb-false n (c .number) b in
           let q : n ≤ c .number = ltb-false (c .number) n a in
@@ -81,7 +79,7 @@ module _ (k : ℕ) (c : Condition) (cs : List Condition) (up : Rising k (c ∷ c
         refused = λ n pos. (λ e. first-of n (sym answered ∙ e), λ f. answered ∙ only-first n f);
         success = (
           λ e. let z : c .number ≡ 0 = sym answered ∙ e in absurd (omega arith),
-          λ f. never (holdsFor (c .number) (c ∷ cs)) (own c cs h) (f (c .number)),
+          λ f. never (sym (own c cs h) ∙ f (c .number)),
         );
       }
 
@@ -104,7 +102,7 @@ module _ (c : Condition) (cs : List Condition) (h : c .holds ≡ false) (done : 
 pub exactly : (k : ℕ) (cs : List Condition) (done : ContactSolved) → Rising k cs → Exactly (answer (firstOr cs done)) cs
 unfolding firstOr holdsFor
 exactly k [] done up = record {
-  refused = λ n pos. (λ e. absurd (omega arith), λ f. never false (f .0) refl);
+  refused = λ n pos. (λ e. absurd (omega arith), λ f. never (sym (f .0)));
   success = (λ e n. refl, λ f. refl);
 }
 exactly k (c ∷ cs) done up = by-case (exactly (c .number) cs done (up .1)) (c .holds) refl

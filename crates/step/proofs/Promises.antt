@@ -1,24 +1,23 @@
 -- The statements of specs/Promises.antt. Assumes nothing.
 use Prim.Native.Nat.{ℕ, _<_}
 use native.Mathlib.Omega.{arith}
-use mathlib.Core.Path.{_≡_, refl, sym, ap, _∙_, subst}
+use mathlib.Core.Path.{_≡_, refl, sym, ap, _∙_}
 use mathlib.Core.Bool.{Bool, true, false, cond, not, _&&_}
 use mathlib.Core.List.{List, [], _∷_}
 use lib.Dec.{lit<}
-use Rattle.leaves.proofs.Pick.{take, pass}
 use Rattle.velocity.specs.declared.SolverVel.{SolverVel}
 use Rattle.velocity.specs.declared.Vels.{Vels}
 use Rattle.contact.proofs.Keeps.{no-branch, routine-keeps, same-head}
 use Rattle.contact.specs.Contact.{isFloor}
 use Rattle.contact.specs.Kinds.{routine}
-use Rattle.contact.specs.Writes.{presses, rubs, stored}
+use Rattle.contact.specs.Writes.{presses, rubs}
 use Rattle.contact.specs.declared.Contact.{Contact}
 use Rattle.contact.specs.declared.ContactHead.{ContactHead}
 use Rattle.contact.specs.declared.ContactSolved.{ContactSolved}
 use Rattle.checks.proofs.Passed.{impulses-finite, two-points, velocity1-finite, velocity2-finite}
-use Rattle.checks.specs.Checks.{finiteVel, lostVel, notFinite, outOfRange, pairOfOne, unwritable, wrongBodies, wrongCount}
+use Rattle.checks.specs.Checks.{finiteVel, lostVel, notFinite, pairOfOne, unwritable, wrongCount}
 use Rattle.step.proofs.Exact.{Rising, exactly}
-use Rattle.step.specs.Promises.{BranchOfPairs, ExactAnswers, Exactly, FiniteDone, FloorKept, SameHead, Untouched}
+use Rattle.step.specs.Promises.{BranchOfPairs, ExactAnswers, FiniteDone, FloorKept, SameHead, Untouched}
 use Rattle.step.specs.Step.{Condition, answer, asRead, asWritten, branch, conditions, firstOr, step, tried, writes, writtenVels}
 use Rattle.step.specs.declared.Outcome.{Outcome}
 use Rattle.step.specs.declared.Outcome.the-variants.{Done, Refused}

@@ -1,5 +1,6 @@
 -- `contact::normal_at` meets its contract. By what the normal part's solve ensures. Assumes nothing.
-use Rattle.contact.proofs.Turns.{pressed}
+use Rattle.contact.specs.Kinds.{normalAt}
+use Rattle.contact.proofs.Turns.{left-by}
 use borrow.Author.Needs.{needs}
 use Rattle.contact.proofs.normal_at.Statement.{statement}
 use Rattle.contact.proofs.normal_at.Tie as tie
@@ -7,8 +8,12 @@ use Rattle.contact.proofs.normal_at.Tie as tie
 solve-requires : tie.Need-solve-requires
 solve-requires c κs = search needs
 
+normal-left-requires : tie.Need-normal-left-requires
+normal-left-requires c κs = search needs
+
 returns : tie.Need-returns
-returns c = search pressed
+unfolding normalAt
+returns c = search left-by
 
 pub normal-at-spec : {M : Type 1} → statement M
-normal-at-spec = tie.close (tie.spec solve-requires returns)
+normal-at-spec = tie.close (tie.spec solve-requires normal-left-requires returns)

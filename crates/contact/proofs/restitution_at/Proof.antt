@@ -1,5 +1,6 @@
 -- `contact::restitution_at` meets its contract. By what the normal part's restitution ensures. Assumes nothing.
-use Rattle.contact.proofs.Turns.{bounced}
+use Rattle.contact.specs.Kinds.{restitutionAt}
+use Rattle.contact.proofs.Turns.{left-by}
 use borrow.Author.Needs.{needs}
 use Rattle.contact.proofs.restitution_at.Statement.{statement}
 use Rattle.contact.proofs.restitution_at.Tie as tie
@@ -7,8 +8,12 @@ use Rattle.contact.proofs.restitution_at.Tie as tie
 solve-restitution-requires : tie.Need-solve-restitution-requires
 solve-restitution-requires c κs = search needs
 
+normal-left-requires : tie.Need-normal-left-requires
+normal-left-requires c κs = search needs
+
 returns : tie.Need-returns
-returns c = search bounced
+unfolding restitutionAt
+returns c = search left-by
 
 pub restitution-at-spec : {M : Type 1} → statement M
-restitution-at-spec = tie.close (tie.spec solve-restitution-requires returns)
+restitution-at-spec = tie.close (tie.spec solve-restitution-requires normal-left-requires returns)

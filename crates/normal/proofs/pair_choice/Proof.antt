@@ -1,6 +1,5 @@
 -- `normal::pair_choice` meets its contract. By what the three dvels and the choice ensure. Assumes nothing.
 use Rattle.normal.proofs.Steps.{chosen}
-use Rattle.normal.specs.Pair.{pairChoice}
 use borrow.Author.Needs.{needs}
 use Rattle.normal.proofs.pair_choice.Statement.{statement}
 use Rattle.normal.proofs.pair_choice.Tie as tie

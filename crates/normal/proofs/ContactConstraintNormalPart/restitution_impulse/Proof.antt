@@ -1,8 +1,5 @@
 -- `normal::ContactConstraintNormalPart::restitution_impulse` meets its contract. By whether the gate is open. Assumes nothing.
 use Rattle.normal.proofs.Steps.{open-gate, shut-gate}
-use mathlib.Core.Path.{refl}
-use Rattle.leaves.proofs.Pick.{take, pass}
-use Rattle.normal.specs.Normal.{restitutionImpulse}
 use borrow.Author.Needs.{needs}
 use Rattle.normal.proofs.ContactConstraintNormalPart.restitution_impulse.Statement.{
   statement,
