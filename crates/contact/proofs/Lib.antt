@@ -1,3 +1,1 @@
-pub mod Keeps
-pub mod Places
-pub mod Turns
+pub mod Zeros

@@ -1,3 +1,1 @@
 pub mod Contact
-pub mod Kinds
-pub mod Writes

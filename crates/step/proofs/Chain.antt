@@ -5,10 +5,10 @@ use mathlib.Core.Bool.{Bool, true, false}
 use mathlib.Core.List.{List, [], _∷_}
 use Rattle.leaves.proofs.Pick.{take, pass}
 use Rattle.velocity.specs.declared.Vels.{Vels}
-use Rattle.contact.specs.Kinds.{routine}
+use Rattle.kinds.specs.Kinds.{routine}
 use Rattle.contact.specs.declared.Contact.{Contact}
-use Rattle.contact.specs.declared.ContactSolved.{ContactSolved}
-use Rattle.checks.specs.Checks.{unwritable}
+use Rattle.kinds.specs.declared.ContactSolved.{ContactSolved}
+use Rattle.values.specs.Values.{unwritable}
 use Rattle.step.specs.Step.{Condition, _when_, asRead, asWritten, firstOr, step, tried}
 use Rattle.step.specs.declared.Outcome.{Outcome}
 use Rattle.step.specs.declared.Outcome.the-variants.{Done, Refused}

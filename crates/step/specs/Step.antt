@@ -8,11 +8,12 @@ use Rattle.velocity.specs.Velocity.{rest}
 use Rattle.velocity.specs.declared.SolverVel.{SolverVel}
 use Rattle.velocity.specs.declared.Vels.{Vels}
 use Rattle.contact.specs.Contact.{isFloor}
-use Rattle.contact.specs.Kinds.{routine}
+use Rattle.kinds.specs.Kinds.{routine}
 use Rattle.contact.specs.declared.Contact.{Contact}
 use Rattle.contact.specs.declared.ContactHead.{ContactHead}
-use Rattle.contact.specs.declared.ContactSolved.{ContactSolved}
-use Rattle.checks.specs.Checks.{kindAbove, notFinite, outOfRange, pairOfOne, unwritable, wrongBodies, wrongCount}
+use Rattle.kinds.specs.declared.ContactSolved.{ContactSolved}
+use Rattle.shape.specs.Shape.{kindAbove, pairOfOne, wrongBodies, wrongCount}
+use Rattle.values.specs.Values.{notFinite, outOfRange, unwritable}
 use Rattle.step.specs.declared.Outcome.{Outcome}
 use Rattle.step.specs.declared.Outcome.the-variants.{Refused, Done}
 

@@ -1,22 +1,23 @@
 // One step on copies: a contact and the velocities of its two bodies go in by value, and the outcome
 // says what is to be written, or that nothing is. So a refused step cannot change anything.
-use checks::kind_above;
-use checks::not_finite;
-use checks::out_of_range;
-use checks::pair_of_one;
-use checks::unwritable;
-use checks::wrong_bodies;
-use checks::wrong_count;
 use contact::Contact;
 use contact::ContactHead;
-use contact::ContactSolved;
 use contact::FLOOR;
+use kinds::ContactSolved;
+use kinds::routine;
+use shape::kind_above;
+use shape::pair_of_one;
+use shape::wrong_bodies;
+use shape::wrong_count;
+use values::not_finite;
+use values::out_of_range;
+use values::unwritable;
 use velocity::SolverVel;
 use velocity::Vels;
 ghost use mathlib.Core.Path.{_≡_};
 ghost use mathlib.Core.List.{[], _∷_};
-ghost use Rattle.contact.specs.Kinds.{routine};
-ghost use Rattle.checks.specs.Checks.{unwritable};
+ghost use Rattle.kinds.specs.Kinds.{routine};
+ghost use Rattle.values.specs.Values.{unwritable};
 ghost use Rattle.step.specs.Step.{answer, asRead, asWritten, branch, firstOr, reads, step};
 ghost use Rattle.step.specs.Step.{tried, writes, writtenVels, _when_};
 
@@ -115,7 +116,7 @@ fn as_written(head: ContactHead, old: Vels, outcome: Outcome) -> Outcome
 fn worked(contact: Contact, kind: u16, vels: Vels) -> Outcome
     ensures { λ r. ⌜ r ≡ firstOr (10 when unwritable kind (routine kind contact vels) ∷ []) (routine kind contact vels) ⌝ }
 {
-    let solved = contact.routine(kind, vels);
+    let solved = routine(contact, kind, vels);
     if unwritable(kind, solved) {
         return Outcome::Refused(10);
     }

@@ -1,5 +1,5 @@
 -- `contact::Contact::zero` meets its contract. By what the zeros of the head and the points ensure. Assumes nothing.
-use Rattle.contact.proofs.Turns.{zero-contact}
+use Rattle.contact.proofs.Zeros.{zero-contact}
 use borrow.Author.Needs.{needs}
 use Rattle.contact.proofs.Contact.zero.Statement.{statement}
 use Rattle.contact.proofs.Contact.zero.Tie as tie

@@ -1,5 +1,5 @@
 -- `contact::ContactPoint::zero` meets its contract. By what the zeros of the two parts ensure. Assumes nothing.
-use Rattle.contact.proofs.Turns.{zero-point}
+use Rattle.contact.proofs.Zeros.{zero-point}
 use borrow.Author.Needs.{needs}
 use Rattle.contact.proofs.ContactPoint.zero.Statement.{statement}
 use Rattle.contact.proofs.ContactPoint.zero.Tie as tie

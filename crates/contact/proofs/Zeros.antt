@@ -1,0 +1,24 @@
+-- An empty point and an empty contact, from what the zeros of their parts ensure. Assumes nothing.
+use mathlib.Core.Path.{_≡_}
+use Rattle.tangent.specs.Tangent.{tangentZero}
+use Rattle.tangent.specs.declared.ContactConstraintTangentPart.{ContactConstraintTangentPart}
+use Rattle.normal.specs.Normal.{normalZero}
+use Rattle.normal.specs.declared.ContactConstraintNormalPart.{ContactConstraintNormalPart}
+use Rattle.contact.specs.Contact.{contactZero, headZero, pointZero}
+use Rattle.contact.specs.declared.Contact.{Contact}
+use Rattle.contact.specs.declared.ContactHead.{ContactHead}
+use Rattle.contact.specs.declared.ContactPoint.{ContactPoint}
+
+abbrev point-of : ContactConstraintNormalPart → ContactConstraintTangentPart → ContactPoint
+point-of n t = record { «normal_part» = n; «tangent_part» = t }
+
+abbrev contact-of : ContactHead → ContactPoint → ContactPoint → Contact
+contact-of h a b = record { head = h; a = a; b = b }
+
+pub zero-point : {n : ContactConstraintNormalPart} {t : ContactConstraintTangentPart} → n ≡ normalZero → t ≡ tangentZero → point-of n t ≡ pointZero
+unfolding pointZero
+zero-point p q = cc
+
+pub zero-contact : {h : ContactHead} {a b : ContactPoint} → h ≡ headZero → a ≡ pointZero → b ≡ pointZero → contact-of h a b ≡ contactZero
+unfolding contactZero
+zero-contact p q s = cc

@@ -1,0 +1,3 @@
+pub mod Keeps
+pub mod Places
+pub mod Turns

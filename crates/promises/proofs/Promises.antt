@@ -1,0 +1,164 @@
+-- The statements of specs/Promises.antt. Assumes nothing.
+use Prim.Native.Nat.{ℕ, _<_}
+use native.Mathlib.Omega.{arith}
+use mathlib.Core.Path.{_≡_, refl, sym, ap, _∙_}
+use mathlib.Core.Bool.{Bool, true, false, cond, not, _&&_}
+use mathlib.Core.List.{List, [], _∷_}
+use lib.Dec.{lit<}
+use Rattle.velocity.specs.declared.SolverVel.{SolverVel}
+use Rattle.velocity.specs.declared.Vels.{Vels}
+use Rattle.kinds.proofs.Keeps.{no-branch, routine-keeps, same-head}
+use Rattle.contact.specs.Contact.{isFloor}
+use Rattle.kinds.specs.Kinds.{routine}
+use Rattle.kinds.specs.Writes.{presses, rubs}
+use Rattle.contact.specs.declared.Contact.{Contact}
+use Rattle.contact.specs.declared.ContactHead.{ContactHead}
+use Rattle.kinds.specs.declared.ContactSolved.{ContactSolved}
+use Rattle.shape.proofs.Points.{two-points}
+use Rattle.values.proofs.Passed.{impulses-finite, velocity1-finite, velocity2-finite}
+use Rattle.shape.specs.Shape.{pairOfOne, wrongCount}
+use Rattle.values.specs.Values.{finiteVel, lostVel, notFinite, unwritable}
+use Rattle.promises.proofs.Exact.{Rising, exactly}
+use Rattle.promises.specs.Promises.{BranchOfPairs, ExactAnswers, FiniteDone, FloorKept, SameHead, Untouched}
+use Rattle.step.specs.Step.{Condition, answer, asRead, asWritten, branch, conditions, firstOr, step, tried, writes, writtenVels}
+use Rattle.step.specs.declared.Outcome.{Outcome}
+use Rattle.step.specs.declared.Outcome.the-variants.{Done, Refused}
+
+-- writing changes no answer and no branch
+same-answer : (h : ContactHead) (v : Vels) (o : Outcome) → answer (asWritten h v o) ≡ answer o
+unfolding asWritten
+same-answer h v (Refused n) = refl
+same-answer h v (Done s) = refl
+
+same-branch : (h : ContactHead) (v : Vels) (o : Outcome) → branch (asWritten h v o) ≡ branch o
+unfolding asWritten
+same-branch h v (Refused n) = refl
+same-branch h v (Done s) = refl
+
+module _ (c : Contact) (kind : ℕ) (v : Vels) (rows : ℕ) where
+  -- the numbers of the conditions rise
+  rising : Rising 0 (conditions c kind v rows)
+  unfolding conditions
+  rising = (lit< tt, (lit< tt, (lit< tt, (lit< tt, (lit< tt, (lit< tt, (lit< tt, tt)))))))
+
+pub exact-answers : ExactAnswers
+unfolding step tried
+exact-answers c kind v rows =
+    let seen = asRead (c .head) v in
+    rw (same-answer (c .head) v (tried c kind seen rows))
+    (exactly 0 (conditions c kind seen rows) (routine kind c seen) (rising c kind seen rows))
+
+-- no condition of a list holds
+abbrev None : List Condition → Type 0
+None [] = Unit
+None (c ∷ cs) = (c .holds ≡ false) × None cs
+
+never : {A : Type 0} {n : ℕ} {s : ContactSolved} → Refused n ≡ Done s → A
+never e = absurd (let z : _≡_ {A = ℕ} 0 1 = cc in omega arith)
+
+-- a step that is done passed every condition, and is what the routine made
+passed-all : (cs : List Condition) (made s : ContactSolved) → firstOr cs made ≡ Done s → None cs × (made ≡ s)
+unfolding firstOr
+passed-all [] made s e = (tt, cc)
+passed-all (c ∷ cs) made s e = by-case (c .holds) refl (passed-all cs made s) e
+  where
+    by-case : (b : Bool) → c .holds ≡ b → (firstOr cs made ≡ Done s → None cs × (made ≡ s))
+        → cond b (Refused (c .number)) (firstOr cs made) ≡ Done s → ((c .holds ≡ false) × None cs) × (made ≡ s)
+    by-case true h rest e = never e
+    by-case false h rest e = let r = rest e in ((h, r .0), r .1)
+
+-- written as it was made, but for the floor
+written-as : (h : ContactHead) (v : Vels) (o : Outcome) (s : ContactSolved) → asWritten h v o ≡ Done s
+    → (made : ContactSolved) × (o ≡ Done made) × (s .branch ≡ made .branch) × (s .contact ≡ made .contact) × (s .vels ≡ writtenVels h v (made .vels))
+unfolding asWritten
+written-as h v (Refused n) s e = never e
+written-as h v (Done made) s e = (made, refl, cc, cc, cc)
+
+-- what is known of a done step: the conditions that it passed, and what it is made of
+pub record Known (c : Contact) (kind : ℕ) (v : Vels) (s : ContactSolved) : Type 0 where
+  counted : wrongCount (c .head) ≡ false
+  paired : pairOfOne kind (c .head) ≡ false
+  read-finite : notFinite c (asRead (c .head) v) ≡ false
+  writable : unwritable kind (routine kind c (asRead (c .head) v)) ≡ false
+  contact : s .contact ≡ routine kind c (asRead (c .head) v) .contact
+  vels : s .vels ≡ writtenVels (c .head) v (routine kind c (asRead (c .head) v) .vels)
+
+known : (c : Contact) (kind : ℕ) (v : Vels) (rows : ℕ) (s : ContactSolved) → step c kind v rows ≡ Done s → Known c kind v s
+unfolding step tried conditions
+known c kind v rows s e =
+    let seen = asRead (c .head) v in
+    let w = written-as (c .head) v (tried c kind seen rows) s e in
+    let p = passed-all (conditions c kind seen rows) (routine kind c seen) (w .0) (w .1) in
+    record {
+      counted = p .0 .1 .1 .0;
+      paired = p .0 .1 .1 .1 .0;
+      read-finite = p .0 .1 .1 .1 .1 .0;
+      writable = p .0 .1 .1 .1 .1 .1 .1 .0;
+      contact = w .3 ∙ ap (λ (x : ContactSolved). x .contact) (sym (p .1));
+      vels = w .4 ∙ ap (λ (x : ContactSolved). writtenVels (c .head) v (x .vels)) (sym (p .1));
+    }
+
+pub untouched : Untouched
+untouched c kind v rows s e =
+    let k = known c kind v rows s e in
+    let seen = asRead (c .head) v in
+    rw (k .contact) (routine-keeps c seen kind (two-points kind (c .head) (k .counted) (k .paired)))
+
+pub same-head-kept : SameHead
+same-head-kept c kind v rows s e = same-head (presses kind) (rubs kind) c (s .contact) (untouched c kind v rows s e)
+
+-- the floor's side is the old one
+floor-side : (body : ℕ) (old new : SolverVel) → isFloor body ≡ true → writes body old new ≡ old
+unfolding writes
+floor-side body old new f = rw f
+
+pub floor-kept : FloorKept
+unfolding writtenVels
+floor-kept c kind v rows s e =
+    let k = known c kind v rows s e in
+    record {
+      side1 = λ f. rw (k .vels) (floor-side (c .head .body1) (v .v1) (routine kind c (asRead (c .head) v) .vels .v1) f);
+      side2 = λ f. rw (k .vels) (floor-side (c .head .body2) (v .v2) (routine kind c (asRead (c .head) v) .vels .v2) f);
+    }
+
+-- a real body's velocity is the routine's
+real-side : (body : ℕ) (old new : SolverVel) → lostVel body new ≡ false → lostVel body (writes body old new) ≡ false
+unfolding writes
+real-side body old new kept = by-floor (isFloor body) kept
+  where
+    by-floor : (b : Bool) → (not b && not (finiteVel new)) ≡ false → (not b && not (finiteVel (cond b old new))) ≡ false
+    by-floor true kept = refl
+    by-floor false kept = kept
+
+pub finite-done : FiniteDone
+unfolding writtenVels
+finite-done c kind v rows s e =
+    let k = known c kind v rows s e in
+    let seen = asRead (c .head) v in
+    let m = routine kind c seen in
+    let keeps = routine-keeps c seen kind (two-points kind (c .head) (k .counted) (k .paired)) in
+    let head : m .contact .head ≡ c .head = same-head (presses kind) (rubs kind) c (m .contact) keeps in
+    let lost1 : lostVel (c .head .body1) (m .vels .v1) ≡ false = rw head at (velocity1-finite kind m (k .writable)) in
+    let lost2 : lostVel (c .head .body2) (m .vels .v2) ≡ false = rw head at (velocity2-finite kind m (k .writable)) in
+    record {
+      velocity1 = rw (k .contact, k .vels, head) (real-side (c .head .body1) (v .v1) (m .vels .v1) lost1);
+      velocity2 = rw (k .contact, k .vels, head) (real-side (c .head .body2) (v .v2) (m .vels .v2) lost2);
+      impulses = rw (k .contact) (impulses-finite kind c seen m keeps (k .read-finite) (k .writable));
+    }
+
+-- a refusal has no branch, and the routine of another kind has none
+refusal-or-made : (cs : List Condition) (made : ContactSolved) → made .branch ≡ 0 → branch (firstOr cs made) ≡ 0
+unfolding firstOr
+refusal-or-made [] made none = none
+refusal-or-made (c ∷ cs) made none = by-case (c .holds) (refusal-or-made cs made none)
+  where
+    by-case : (b : Bool) → branch (firstOr cs made) ≡ 0 → branch (cond b (Refused (c .number)) (firstOr cs made)) ≡ 0
+    by-case true rest = refl
+    by-case false rest = rest
+
+pub branch-of-pairs : BranchOfPairs
+unfolding step tried
+branch-of-pairs c kind v rows other =
+    let seen = asRead (c .head) v in
+    same-branch (c .head) v (tried c kind seen rows)
+    ∙ refusal-or-made (conditions c kind seen rows) (routine kind c seen) (no-branch c seen kind other)

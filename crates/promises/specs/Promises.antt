@@ -1,0 +1,71 @@
+-- What every step keeps to: the sentences of document 01 and of demand 1 that speak of a single step, as statements about `step`.
+-- Each is proved in proofs/Promises.antt. Assumes nothing.
+use Prim.Native.Nat.{ℕ, _<_}
+use mathlib.Core.Path.{_≡_}
+use mathlib.Core.Logic.{_↔_}
+use mathlib.Core.Bool.{Bool, true, false, not, _&&_, _||_}
+use mathlib.Core.List.{List, [], _∷_}
+use lib.Dec.{eqb}
+use Rattle.leaves.specs.Finite.{finite}
+use Rattle.velocity.specs.declared.Vels.{Vels}
+use Rattle.contact.specs.Contact.{isFloor}
+use Rattle.kinds.specs.Writes.{presses, rubs, stored}
+use Rattle.contact.specs.declared.Contact.{Contact}
+use Rattle.contact.specs.declared.ContactPoint.{ContactPoint}
+use Rattle.kinds.specs.declared.ContactSolved.{ContactSolved}
+use Rattle.values.specs.Values.{lostVel, somePoint}
+use Rattle.step.specs.Step.{Condition, answer, asRead, branch, conditions, step}
+use Rattle.step.specs.declared.Outcome.the-variants.{Done}
+
+-- whether the condition of number n holds; a number that the list does not have has none
+unfoldable pub holdsFor : ℕ → List Condition → Bool
+holdsFor n [] = false
+holdsFor n (c ∷ cs) = eqb n (c .number) && c .holds || holdsFor n cs
+
+-- number n's condition holds and no earlier number's does
+abbrev pub FirstOf : ℕ → List Condition → Type 0
+FirstOf n cs = (holdsFor n cs ≡ true) × ((m : ℕ) → m < n → holdsFor m cs ≡ false)
+
+-- "each refusal is given exactly when its number's condition holds and no earlier one does"; 0 exactly when none holds
+pub record Exactly (given : ℕ) (cs : List Condition) : Type 0 where
+  pub refused : (n : ℕ) → 0 < n → (given ≡ n) ↔ FirstOf n cs
+  pub success : (given ≡ 0) ↔ ((n : ℕ) → holdsFor n cs ≡ false)
+
+abbrev pub ExactAnswers : Type 0
+ExactAnswers = (c : Contact) (kind : ℕ) (v : Vels) (rows : ℕ) → Exactly (answer (step c kind v rows)) (conditions c kind (asRead (c .head) v) rows)
+
+-- "0 for any refusal and for every kind but 4"
+abbrev pub BranchOfPairs : Type 0
+BranchOfPairs = (c : Contact) (kind : ℕ) (v : Vels) (rows : ℕ) → (kind ≡ 4 → ⊥) → branch (step c kind v rows) ≡ 0
+
+-- what holds of every done step
+abbrev pub OfDone : (Contact → ℕ → Vels → ContactSolved → Type 0) → Type 0
+OfDone P = (c : Contact) (kind : ℕ) (v : Vels) (rows : ℕ) (s : ContactSolved) → step c kind v rows ≡ Done s → P c kind v s
+
+-- every number that no rule writes is as it was: the new contact is the old one, but for the impulses that the kind stores at points
+-- below count. So the head, with body numbers and count, never changes
+abbrev pub Untouched : Type 0
+Untouched = OfDone (λ c kind v s. s .contact ≡ stored (presses kind) (rubs kind) c (s .contact))
+
+abbrev pub SameHead : Type 0
+SameHead = OfDone (λ c kind v s. s .contact .head ≡ c .head)
+
+-- the floor "is never written"
+pub record FloorSides (c : Contact) (old new : Vels) : Type 0 where
+  pub side1 : isFloor (c .head .body1) ≡ true → new .v1 ≡ old .v1
+  pub side2 : isFloor (c .head .body2) ≡ true → new .v2 ≡ old .v2
+
+abbrev pub FloorKept : Type 0
+FloorKept = OfDone (λ c kind v s. FloorSides c v (s .vels))
+
+-- a done step's real velocities are finite, and so are all its impulses at points below count, those that it wrote and the others
+abbrev pub wildImpulse : ContactPoint → Bool
+wildImpulse p = not (finite (p .«normal_part» .impulse) && finite (p .«tangent_part» .impulse))
+
+pub record FiniteResult (s : ContactSolved) : Type 0 where
+  pub velocity1 : lostVel (s .contact .head .body1) (s .vels .v1) ≡ false
+  pub velocity2 : lostVel (s .contact .head .body2) (s .vels .v2) ≡ false
+  pub impulses : somePoint wildImpulse (s .contact) ≡ false
+
+abbrev pub FiniteDone : Type 0
+FiniteDone = OfDone (λ c kind v s. FiniteResult s)

@@ -1,0 +1,160 @@
+-- What is known where a condition does not hold. Assumes nothing.
+use Prim.Native.Nat.{ℕ}
+use mathlib.Core.Path.{_≡_, refl, sym, ap, _∙_}
+use mathlib.Core.Bool.{Bool, true, false, not, _&&_, _||_}
+use lib.Dec.{ltb}
+use Rattle.leaves.proofs.Pick.{never}
+use Rattle.leaves.specs.Finite.{finite}
+use Rattle.velocity.specs.declared.Vels.{Vels}
+use Rattle.tangent.specs.declared.ContactConstraintTangentPart.{ContactConstraintTangentPart}
+use Rattle.normal.specs.declared.ContactConstraintNormalPart.{ContactConstraintNormalPart}
+use Rattle.kinds.proofs.Keeps.{same-head, same-normal, same-tangent, stored-point}
+use Rattle.kinds.proofs.Places.{Place, at-a, at-b, number, point}
+use Rattle.kinds.specs.Writes.{presses, rubs, stored, storedAt}
+use Rattle.contact.specs.declared.Contact.{Contact}
+use Rattle.contact.specs.declared.ContactHead.{ContactHead}
+use Rattle.contact.specs.declared.ContactPoint.{ContactPoint}
+use Rattle.kinds.specs.declared.ContactSolved.{ContactSolved}
+use Rattle.values.specs.Values.{belowCount, finiteHead, finiteNormal, finitePoint, finiteTangent, finiteVel, lostImpulse, lostVel, notFinite, somePoint, unwritable}
+
+-- tests that fail, and tests that pass, taken apart
+none-l : (p q : Bool) → (p || q) ≡ false → p ≡ false
+none-l true q e = e
+none-l false q e = refl
+
+none-r : (p q : Bool) → (p || q) ≡ false → q ≡ false
+none-r true q e = never e
+none-r false q e = e
+
+all-l : (p q : Bool) → (p && q) ≡ true → p ≡ true
+all-l true q e = refl
+all-l false q e = e
+
+all-r : (p q : Bool) → (p && q) ≡ true → q ≡ true
+all-r true q e = e
+all-r false q e = never (sym e)
+
+holds : (p : Bool) → not p ≡ false → p ≡ true
+holds true e = refl
+holds false e = never e
+
+-- a test at the points below count, taken apart and put together
+module _ (test : ContactPoint → Bool) (c : Contact) where
+  not-at : somePoint test c ≡ false → (x : Place) → ltb (number x) (c .head .count) ≡ true → test (point x c) ≡ false
+  unfolding belowCount
+  not-at e at-a below = none-l (test (c .a)) (ltb 1 (c .head .count) && test (c .b)) (rw below at e)
+  not-at e at-b below = none-r (ltb 0 (c .head .count) && test (c .a)) (test (c .b)) (rw below at e)
+
+  not-below : ((x : Place) → ltb (number x) (c .head .count) ≡ true → test (point x c) ≡ false) → somePoint test c ≡ false
+  unfolding belowCount
+  not-below each = by-place (ltb 0 (c .head .count)) (ltb 1 (c .head .count)) (each at-a) (each at-b)
+    where
+      by-place : (x y : Bool) → (x ≡ true → test (c .a) ≡ false) → (y ≡ true → test (c .b) ≡ false) → (x && test (c .a) || y && test (c .b)) ≡ false
+      by-place true true a b = rw (a refl, b refl)
+      by-place true false a b = rw (a refl)
+      by-place false true a b = b refl
+      by-place false false a b = refl
+
+-- one test of many that all pass: x before it, the others after it
+inner : (x i a r : Bool) → (x && i && a && r) ≡ true → i ≡ true
+inner x true a r e = refl
+inner true false a r e = e
+inner false false a r e = e
+
+-- 8: the impulses of a finite point are finite
+module _ (p : ContactPoint) (f : finitePoint p ≡ true) where
+  normal-finite : finite (p .«normal_part» .impulse) ≡ true
+  unfolding finitePoint finiteNormal
+  normal-finite =
+      let n = p .«normal_part» in
+      let x = finite (n .«torque_dir1») && finite (n .«torque_dir2») && finite (n .«ii_torque_dir1») && finite (n .«ii_torque_dir2») && finite (n .rhs) in
+      let part = x && finite (n .impulse) && finite (n .«impulse_accumulator») && finite (n .r) in
+      inner x (finite (n .impulse)) (finite (n .«impulse_accumulator»)) (finite (n .r))
+      (all-l part (finite (n .«cfm_factor»)) (all-l (part && finite (n .«cfm_factor»)) (finite (n .seed)) (all-l (finiteNormal n) (finiteTangent (p .«tangent_part»)) f)))
+
+  tangent-finite : finite (p .«tangent_part» .impulse) ≡ true
+  unfolding finitePoint finiteTangent
+  tangent-finite =
+      let t = p .«tangent_part» in
+      let x = finite (t .«torque_dir1») && finite (t .«torque_dir2») && finite (t .«ii_torque_dir1») && finite (t .«ii_torque_dir2») && finite (t .rhs) in
+      inner x (finite (t .impulse)) (finite (t .«impulse_accumulator»)) (finite (t .r)) (all-r (finiteNormal (p .«normal_part»)) (finiteTangent t) f)
+
+-- 8 and 10: at a point whose numbers were finite and whose stored impulses are, both impulses are finite
+abbrev pub wild : ContactPoint → Bool
+wild p = not (finite (p .«normal_part» .impulse) && finite (p .«tangent_part» .impulse))
+
+module _ (p q : ContactPoint) (f : finitePoint p ≡ true) where
+  abbrev new-normal : Bool
+  new-normal = finite (q .«normal_part» .impulse)
+
+  abbrev new-tangent : Bool
+  new-tangent = finite (q .«tangent_part» .impulse)
+
+  -- stored and found finite, or the old one
+  normal-tame : (n t : Bool) → q ≡ storedAt n t p q → (n && not new-normal) ≡ false → new-normal ≡ true
+  normal-tame true t e kept = holds new-normal kept
+  normal-tame false t e kept = ap (λ (x : ContactConstraintNormalPart). finite (x .impulse)) (same-normal p q t e) ∙ normal-finite p f
+
+  tangent-tame : (n t : Bool) → q ≡ storedAt n t p q → (t && not new-tangent) ≡ false → new-tangent ≡ true
+  tangent-tame n true e kept = holds new-tangent kept
+  tangent-tame n false e kept = ap (λ (x : ContactConstraintTangentPart). finite (x .impulse)) (same-tangent p q n e) ∙ tangent-finite p f
+
+  tame : (kind : ℕ) → q ≡ storedAt (presses kind) (rubs kind) p q → lostImpulse kind q ≡ false → wild q ≡ false
+  unfolding lostImpulse
+  tame kind e kept =
+      let pressed = presses kind && not new-normal in
+      let rubbed = rubs kind && not new-tangent in
+      rw (normal-tame (presses kind) (rubs kind) e (none-l pressed rubbed kept), tangent-tame (presses kind) (rubs kind) e (none-r pressed rubbed kept))
+
+-- 8: every point below count is finite
+module _ (c : Contact) (v : Vels) (passed : notFinite c v ≡ false) where
+  abbrev wrong-head : Bool
+  wrong-head = not (finiteHead (c .head))
+
+  abbrev wrong-points : Bool
+  wrong-points = somePoint (λ p. not (finitePoint p)) c
+
+  points-finite : wrong-points ≡ false
+  unfolding notFinite
+  points-finite =
+      none-r wrong-head wrong-points
+      (none-l (wrong-head || wrong-points) (not (finiteVel (v .v1)))
+      (none-l (wrong-head || wrong-points || not (finiteVel (v .v1))) (not (finiteVel (v .v2))) passed))
+
+  point-finite : (x : Place) → ltb (number x) (c .head .count) ≡ true → finitePoint (point x c) ≡ true
+  point-finite x below = holds (finitePoint (point x c)) (not-at (λ p. not (finitePoint p)) c points-finite x below)
+
+-- 10: what is to be written is finite
+module _ (kind : ℕ) (s : ContactSolved) (passed : unwritable kind s ≡ false) where
+  abbrev lost1 : Bool
+  lost1 = lostVel (s .contact .head .body1) (s .vels .v1)
+
+  abbrev lost2 : Bool
+  lost2 = lostVel (s .contact .head .body2) (s .vels .v2)
+
+  abbrev lost-points : Bool
+  lost-points = somePoint (lostImpulse kind) (s .contact)
+
+  pub velocity1-finite : lost1 ≡ false
+  unfolding unwritable
+  velocity1-finite = none-l lost1 lost2 (none-l (lost1 || lost2) lost-points passed)
+
+  pub velocity2-finite : lost2 ≡ false
+  unfolding unwritable
+  velocity2-finite = none-r lost1 lost2 (none-l (lost1 || lost2) lost-points passed)
+
+  points-kept : lost-points ≡ false
+  unfolding unwritable
+  points-kept = none-r (lost1 || lost2) lost-points passed
+
+-- 8 and 10, over the contact: all impulses of what a step leaves are finite
+module _ (kind : ℕ) (c : Contact) (v : Vels) (s : ContactSolved) (is-stored : s .contact ≡ stored (presses kind) (rubs kind) c (s .contact))
+    (found-finite : notFinite c v ≡ false) (passed : unwritable kind s ≡ false) where
+  pub impulses-finite : somePoint wild (s .contact) ≡ false
+  impulses-finite =
+      let d = s .contact in
+      let count : d .head .count ≡ c .head .count = ap (λ (h : ContactHead). h .count) (same-head (presses kind) (rubs kind) c d is-stored) in
+      not-below wild d
+      (λ x below. let old : ltb (number x) (c .head .count) ≡ true = rw (← count) below in
+      tame (point x c) (point x d) (point-finite c v found-finite x old) kind (stored-point (presses kind) (rubs kind) c d is-stored x old)
+      (not-at (lostImpulse kind) d (points-kept kind s passed) x below))
