@@ -2,13 +2,15 @@
 use Prim.Native.Nat.{ℕ, _<_}
 use native.Mathlib.Omega.{arith}
 use mathlib.Core.Path.{_≡_, refl, sym, ap, _∙_}
-use mathlib.Core.Bool.{Bool, true, false, cond, not, _&&_}
+use mathlib.Core.Bool.{Bool, true, false, cond}
 use mathlib.Core.List.{List, [], _∷_}
+use borrow.Author.Tests.{lt-ltb}
 use lib.Dec.{lit<}
 use Rattle.velocity.specs.declared.SolverVel.{SolverVel}
 use Rattle.velocity.specs.declared.Vels.{Vels}
 use Rattle.kinds.proofs.Keeps.{no-branch, routine-keeps, same-head}
 use Rattle.contact.specs.Contact.{isFloor}
+use Rattle.kinds.proofs.Places.{at-a, at-b}
 use Rattle.kinds.specs.Kinds.{routine}
 use Rattle.kinds.specs.Writes.{presses, rubs}
 use Rattle.contact.specs.declared.Contact.{Contact}
@@ -17,7 +19,7 @@ use Rattle.kinds.specs.declared.ContactSolved.{ContactSolved}
 use Rattle.shape.proofs.Points.{two-points}
 use Rattle.values.proofs.Passed.{impulses-finite, velocity1-finite, velocity2-finite}
 use Rattle.shape.specs.Shape.{pairOfOne, wrongCount}
-use Rattle.values.specs.Values.{finiteVel, lostVel, notFinite, unwritable}
+use Rattle.values.specs.Values.{finiteVel, notFinite, unwritable}
 use Rattle.promises.proofs.Exact.{Rising, exactly}
 use Rattle.promises.specs.Promises.{BranchOfPairs, ExactAnswers, FiniteDone, FloorKept, SameHead, Untouched}
 use Rattle.step.specs.Step.{Condition, answer, asRead, asWritten, branch, conditions, firstOr, step, tried, writes, writtenVels}
@@ -121,29 +123,28 @@ floor-kept c kind v rows s e =
       side2 = λ f. rw (k .vels) (floor-side (c .head .body2) (v .v2) (routine kind c (asRead (c .head) v) .vels .v2) f);
     }
 
--- a real body's velocity is the routine's
-real-side : (body : ℕ) (old new : SolverVel) → lostVel body new ≡ false → lostVel body (writes body old new) ≡ false
+-- a real body's is the routine's
+real-side : (body : ℕ) (old new : SolverVel) → isFloor body ≡ false → writes body old new ≡ new
 unfolding writes
-real-side body old new kept = by-floor (isFloor body) kept
-  where
-    by-floor : (b : Bool) → (not b && not (finiteVel new)) ≡ false → (not b && not (finiteVel (cond b old new))) ≡ false
-    by-floor true kept = refl
-    by-floor false kept = kept
+real-side body old new real = rw real
 
 pub finite-done : FiniteDone
 unfolding writtenVels
 finite-done c kind v rows s e =
     let k = known c kind v rows s e in
-    let seen = asRead (c .head) v in
+    let h = c .head in
+    let seen = asRead h v in
     let m = routine kind c seen in
-    let keeps = routine-keeps c seen kind (two-points kind (c .head) (k .counted) (k .paired)) in
-    let head : m .contact .head ≡ c .head = same-head (presses kind) (rubs kind) c (m .contact) keeps in
-    let lost1 : lostVel (c .head .body1) (m .vels .v1) ≡ false = rw head at (velocity1-finite kind m (k .writable)) in
-    let lost2 : lostVel (c .head .body2) (m .vels .v2) ≡ false = rw head at (velocity2-finite kind m (k .writable)) in
+    let keeps = routine-keeps c seen kind (two-points kind h (k .counted) (k .paired)) in
+    let head : m .contact .head ≡ h = same-head (presses kind) (rubs kind) c (m .contact) keeps in
+    let v1-finite : isFloor (h .body1) ≡ false → finiteVel (m .vels .v1) ≡ true = rw head at (velocity1-finite kind m (k .writable)) in
+    let v2-finite : isFloor (h .body2) ≡ false → finiteVel (m .vels .v2) ≡ true = rw head at (velocity2-finite kind m (k .writable)) in
+    let at-points = impulses-finite kind c seen m keeps (k .read-finite) (k .writable) in
     record {
-      velocity1 = rw (k .contact, k .vels, head) (real-side (c .head .body1) (v .v1) (m .vels .v1) lost1);
-      velocity2 = rw (k .contact, k .vels, head) (real-side (c .head .body2) (v .v2) (m .vels .v2) lost2);
-      impulses = rw (k .contact) (impulses-finite kind c seen m keeps (k .read-finite) (k .writable));
+      velocity1 = rw (k .contact, k .vels, head) (λ real. rw (real-side (h .body1) (v .v1) (m .vels .v1) real) (v1-finite real));
+      velocity2 = rw (k .contact, k .vels, head) (λ real. rw (real-side (h .body2) (v .v2) (m .vels .v2) real) (v2-finite real));
+      at-a = rw (k .contact) (λ below. let f = at-points at-a (lt-ltb 0 (m .contact .head .count) below) in record { normal = f .0; tangent = f .1 });
+      at-b = rw (k .contact) (λ below. let f = at-points at-b (lt-ltb 1 (m .contact .head .count) below) in record { normal = f .0; tangent = f .1 });
     }
 
 -- a refusal has no branch, and the routine of another kind has none

@@ -3,7 +3,7 @@
 use Prim.Native.Nat.{ℕ, _<_}
 use mathlib.Core.Path.{_≡_}
 use mathlib.Core.Logic.{_↔_}
-use mathlib.Core.Bool.{Bool, true, false, not, _&&_, _||_}
+use mathlib.Core.Bool.{Bool, true, false, _&&_, _||_}
 use mathlib.Core.List.{List, [], _∷_}
 use lib.Dec.{eqb}
 use Rattle.leaves.specs.Finite.{finite}
@@ -13,7 +13,7 @@ use Rattle.kinds.specs.Writes.{presses, rubs, stored}
 use Rattle.contact.specs.declared.Contact.{Contact}
 use Rattle.contact.specs.declared.ContactPoint.{ContactPoint}
 use Rattle.kinds.specs.declared.ContactSolved.{ContactSolved}
-use Rattle.values.specs.Values.{lostVel, somePoint}
+use Rattle.values.specs.Values.{finiteVel}
 use Rattle.step.specs.Step.{Condition, answer, asRead, branch, conditions, step}
 use Rattle.step.specs.declared.Outcome.the-variants.{Done}
 
@@ -59,13 +59,15 @@ abbrev pub FloorKept : Type 0
 FloorKept = OfDone (λ c kind v s. FloorSides c v (s .vels))
 
 -- a done step's real velocities are finite, and so are all its impulses at points below count, those that it wrote and the others
-abbrev pub wildImpulse : ContactPoint → Bool
-wildImpulse p = not (finite (p .«normal_part» .impulse) && finite (p .«tangent_part» .impulse))
+pub record FiniteImpulses (p : ContactPoint) : Type 0 where
+  pub normal : finite (p .«normal_part» .impulse) ≡ true
+  pub tangent : finite (p .«tangent_part» .impulse) ≡ true
 
 pub record FiniteResult (s : ContactSolved) : Type 0 where
-  pub velocity1 : lostVel (s .contact .head .body1) (s .vels .v1) ≡ false
-  pub velocity2 : lostVel (s .contact .head .body2) (s .vels .v2) ≡ false
-  pub impulses : somePoint wildImpulse (s .contact) ≡ false
+  pub velocity1 : isFloor (s .contact .head .body1) ≡ false → finiteVel (s .vels .v1) ≡ true
+  pub velocity2 : isFloor (s .contact .head .body2) ≡ false → finiteVel (s .vels .v2) ≡ true
+  pub at-a : 0 < s .contact .head .count → FiniteImpulses (s .contact .a)
+  pub at-b : 1 < s .contact .head .count → FiniteImpulses (s .contact .b)
 
 abbrev pub FiniteDone : Type 0
 FiniteDone = OfDone (λ c kind v s. FiniteResult s)

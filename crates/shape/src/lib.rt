@@ -26,7 +26,7 @@ pub fn wrong_bodies(head: ContactHead, rows: usize) -> bool
     !((row1 < rows) | (body1 == FLOOR)) | !((row2 < rows) | (body2 == FLOOR)) | (body1 == body2)
 }
 
-// 6
+// 6: neither one point nor two.
 pub fn wrong_count(head: ContactHead) -> bool
     ensures { λ r. ⌜ r ≡ wrongCount head ⌝ }
 {

@@ -5,12 +5,14 @@ use mathlib.Core.Bool.{Bool, true, false, not, _&&_, _||_}
 use lib.Dec.{ltb}
 use Rattle.leaves.proofs.Pick.{never}
 use Rattle.leaves.specs.Finite.{finite}
+use Rattle.velocity.specs.declared.SolverVel.{SolverVel}
 use Rattle.velocity.specs.declared.Vels.{Vels}
 use Rattle.tangent.specs.declared.ContactConstraintTangentPart.{ContactConstraintTangentPart}
 use Rattle.normal.specs.declared.ContactConstraintNormalPart.{ContactConstraintNormalPart}
 use Rattle.kinds.proofs.Keeps.{same-head, same-normal, same-tangent, stored-point}
 use Rattle.kinds.proofs.Places.{Place, at-a, at-b, number, point}
 use Rattle.kinds.specs.Writes.{presses, rubs, stored, storedAt}
+use Rattle.contact.specs.Contact.{isFloor}
 use Rattle.contact.specs.declared.Contact.{Contact}
 use Rattle.contact.specs.declared.ContactHead.{ContactHead}
 use Rattle.contact.specs.declared.ContactPoint.{ContactPoint}
@@ -38,22 +40,12 @@ holds : (p : Bool) → not p ≡ false → p ≡ true
 holds true e = refl
 holds false e = never e
 
--- a test at the points below count, taken apart and put together
+-- a test that holds at no point below count
 module _ (test : ContactPoint → Bool) (c : Contact) where
   not-at : somePoint test c ≡ false → (x : Place) → ltb (number x) (c .head .count) ≡ true → test (point x c) ≡ false
   unfolding belowCount
   not-at e at-a below = none-l (test (c .a)) (ltb 1 (c .head .count) && test (c .b)) (rw below at e)
   not-at e at-b below = none-r (ltb 0 (c .head .count) && test (c .a)) (test (c .b)) (rw below at e)
-
-  not-below : ((x : Place) → ltb (number x) (c .head .count) ≡ true → test (point x c) ≡ false) → somePoint test c ≡ false
-  unfolding belowCount
-  not-below each = by-place (ltb 0 (c .head .count)) (ltb 1 (c .head .count)) (each at-a) (each at-b)
-    where
-      by-place : (x y : Bool) → (x ≡ true → test (c .a) ≡ false) → (y ≡ true → test (c .b) ≡ false) → (x && test (c .a) || y && test (c .b)) ≡ false
-      by-place true true a b = rw (a refl, b refl)
-      by-place true false a b = rw (a refl)
-      by-place false true a b = b refl
-      by-place false false a b = refl
 
 -- one test of many that all pass: x before it, the others after it
 inner : (x i a r : Bool) → (x && i && a && r) ≡ true → i ≡ true
@@ -80,9 +72,6 @@ module _ (p : ContactPoint) (f : finitePoint p ≡ true) where
       inner x (finite (t .impulse)) (finite (t .«impulse_accumulator»)) (finite (t .r)) (all-r (finiteNormal (p .«normal_part»)) (finiteTangent t) f)
 
 -- 8 and 10: at a point whose numbers were finite and whose stored impulses are, both impulses are finite
-abbrev pub wild : ContactPoint → Bool
-wild p = not (finite (p .«normal_part» .impulse) && finite (p .«tangent_part» .impulse))
-
 module _ (p q : ContactPoint) (f : finitePoint p ≡ true) where
   abbrev new-normal : Bool
   new-normal = finite (q .«normal_part» .impulse)
@@ -99,12 +88,12 @@ module _ (p q : ContactPoint) (f : finitePoint p ≡ true) where
   tangent-tame n true e kept = holds new-tangent kept
   tangent-tame n false e kept = ap (λ (x : ContactConstraintTangentPart). finite (x .impulse)) (same-tangent p q n e) ∙ tangent-finite p f
 
-  tame : (kind : ℕ) → q ≡ storedAt (presses kind) (rubs kind) p q → lostImpulse kind q ≡ false → wild q ≡ false
+  tame : (kind : ℕ) → q ≡ storedAt (presses kind) (rubs kind) p q → lostImpulse kind q ≡ false → (new-normal ≡ true) × (new-tangent ≡ true)
   unfolding lostImpulse
   tame kind e kept =
       let pressed = presses kind && not new-normal in
       let rubbed = rubs kind && not new-tangent in
-      rw (normal-tame (presses kind) (rubs kind) e (none-l pressed rubbed kept), tangent-tame (presses kind) (rubs kind) e (none-r pressed rubbed kept))
+      (normal-tame (presses kind) (rubs kind) e (none-l pressed rubbed kept), tangent-tame (presses kind) (rubs kind) e (none-r pressed rubbed kept))
 
 -- 8: every point below count is finite
 module _ (c : Contact) (v : Vels) (passed : notFinite c v ≡ false) where
@@ -124,6 +113,10 @@ module _ (c : Contact) (v : Vels) (passed : notFinite c v ≡ false) where
   point-finite : (x : Place) → ltb (number x) (c .head .count) ≡ true → finitePoint (point x c) ≡ true
   point-finite x below = holds (finitePoint (point x c)) (not-at (λ p. not (finitePoint p)) c points-finite x below)
 
+-- 10: a velocity of a real body that is not lost is finite
+real-finite : (body : ℕ) (v : SolverVel) → lostVel body v ≡ false → isFloor body ≡ false → finiteVel v ≡ true
+real-finite body v kept real = holds (finiteVel v) (rw real at kept)
+
 -- 10: what is to be written is finite
 module _ (kind : ℕ) (s : ContactSolved) (passed : unwritable kind s ≡ false) where
   abbrev lost1 : Bool
@@ -135,13 +128,13 @@ module _ (kind : ℕ) (s : ContactSolved) (passed : unwritable kind s ≡ false)
   abbrev lost-points : Bool
   lost-points = somePoint (lostImpulse kind) (s .contact)
 
-  pub velocity1-finite : lost1 ≡ false
+  pub velocity1-finite : isFloor (s .contact .head .body1) ≡ false → finiteVel (s .vels .v1) ≡ true
   unfolding unwritable
-  velocity1-finite = none-l lost1 lost2 (none-l (lost1 || lost2) lost-points passed)
+  velocity1-finite = real-finite (s .contact .head .body1) (s .vels .v1) (none-l lost1 lost2 (none-l (lost1 || lost2) lost-points passed))
 
-  pub velocity2-finite : lost2 ≡ false
+  pub velocity2-finite : isFloor (s .contact .head .body2) ≡ false → finiteVel (s .vels .v2) ≡ true
   unfolding unwritable
-  velocity2-finite = none-r lost1 lost2 (none-l (lost1 || lost2) lost-points passed)
+  velocity2-finite = real-finite (s .contact .head .body2) (s .vels .v2) (none-r lost1 lost2 (none-l (lost1 || lost2) lost-points passed))
 
   points-kept : lost-points ≡ false
   unfolding unwritable
@@ -150,11 +143,11 @@ module _ (kind : ℕ) (s : ContactSolved) (passed : unwritable kind s ≡ false)
 -- 8 and 10, over the contact: all impulses of what a step leaves are finite
 module _ (kind : ℕ) (c : Contact) (v : Vels) (s : ContactSolved) (is-stored : s .contact ≡ stored (presses kind) (rubs kind) c (s .contact))
     (found-finite : notFinite c v ≡ false) (passed : unwritable kind s ≡ false) where
-  pub impulses-finite : somePoint wild (s .contact) ≡ false
-  impulses-finite =
+  pub impulses-finite : (x : Place) → ltb (number x) (s .contact .head .count) ≡ true
+      → (finite (point x (s .contact) .«normal_part» .impulse) ≡ true) × (finite (point x (s .contact) .«tangent_part» .impulse) ≡ true)
+  impulses-finite x below =
       let d = s .contact in
       let count : d .head .count ≡ c .head .count = ap (λ (h : ContactHead). h .count) (same-head (presses kind) (rubs kind) c d is-stored) in
-      not-below wild d
-      (λ x below. let old : ltb (number x) (c .head .count) ≡ true = rw (← count) below in
+      let old : ltb (number x) (c .head .count) ≡ true = rw (← count) below in
       tame (point x c) (point x d) (point-finite c v found-finite x old) kind (stored-point (presses kind) (rubs kind) c d is-stored x old)
-      (not-at (lostImpulse kind) d (points-kept kind s passed) x below))
+      (not-at (lostImpulse kind) d (points-kept kind s passed) x below)

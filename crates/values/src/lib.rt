@@ -79,7 +79,7 @@ fn finite_point(point: ContactPoint) -> bool
     finite_normal(normal_part) & finite_tangent(tangent_part)
 }
 
-// 8
+// 8: a float of the contact, or a velocity, is not finite.
 pub fn not_finite(contact: Contact, vels: Vels) -> bool
     ensures { λ r. ⌜ r ≡ notFinite contact vels ⌝ }
 {
@@ -133,7 +133,7 @@ fn point_out(head: ContactHead, point: ContactPoint) -> bool
         )
 }
 
-// 9
+// 9: a number is outside what it may be, or the floor would move.
 pub fn out_of_range(contact: Contact) -> bool
     ensures { λ r. ⌜ r ≡ outOfRange contact ⌝ }
 {
