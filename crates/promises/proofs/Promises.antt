@@ -20,9 +20,10 @@ use Rattle.shape.proofs.Points.{two-points}
 use Rattle.values.proofs.Passed.{impulses-finite, velocity1-finite, velocity2-finite}
 use Rattle.shape.specs.Shape.{pairOfOne, wrongCount}
 use Rattle.values.specs.Values.{finiteVel, notFinite, unwritable}
-use Rattle.promises.proofs.Exact.{Rising, exactly}
+use Rattle.refusals.specs.Refusals.{Condition, first}
+use Rattle.refusals.proofs.Exact.{None, Rising, exactly}
 use Rattle.promises.specs.Promises.{BranchOfPairs, ExactAnswers, FiniteDone, FloorKept, SameHead, Untouched}
-use Rattle.step.specs.Step.{Condition, answer, asRead, asWritten, branch, conditions, firstOr, step, tried, writes, writtenVels}
+use Rattle.step.specs.Step.{answer, asRead, asWritten, branch, conditions, firstOr, step, tried, writes, writtenVels}
 use Rattle.step.specs.declared.Outcome.{Outcome}
 use Rattle.step.specs.declared.Outcome.the-variants.{Done, Refused}
 
@@ -37,23 +38,32 @@ unfolding asWritten
 same-branch h v (Refused n) = refl
 same-branch h v (Done s) = refl
 
+-- a refused outcome's number is the first of its conditions, and a done one's is 0
+first-answered : (cs : List Condition) (made : ContactSolved) → answer (firstOr cs made) ≡ first cs
+unfolding firstOr first
+first-answered [] made = refl
+first-answered (c ∷ cs) made = by-case (c .holds) (first-answered cs made)
+  where
+    by-case : (b : Bool) → answer (firstOr cs made) ≡ first cs → answer (cond b (Refused (c .number)) (firstOr cs made)) ≡ cond b (c .number) (first cs)
+    by-case true rest = refl
+    by-case false rest = rest
+
 module _ (c : Contact) (kind : ℕ) (v : Vels) (rows : ℕ) where
-  -- the numbers of the conditions rise
-  rising : Rising 0 (conditions c kind v rows)
+  -- the numbers of the conditions rise from 3
+  pub rising : Rising 2 (conditions c kind v rows)
   unfolding conditions
   rising = (lit< tt, (lit< tt, (lit< tt, (lit< tt, (lit< tt, (lit< tt, (lit< tt, tt)))))))
 
-pub exact-answers : ExactAnswers
-unfolding step tried
-exact-answers c kind v rows =
-    let seen = asRead (c .head) v in
-    rw (same-answer (c .head) v (tried c kind seen rows))
-    (exactly 0 (conditions c kind seen rows) (routine kind c seen) (rising c kind seen rows))
+  -- a step answers the first of its conditions
+  pub answers-first : answer (step c kind v rows) ≡ first (conditions c kind (asRead (c .head) v) rows)
+  unfolding step tried
+  answers-first =
+      let seen = asRead (c .head) v in
+      same-answer (c .head) v (tried c kind seen rows) ∙ first-answered (conditions c kind seen rows) (routine kind c seen)
 
--- no condition of a list holds
-abbrev None : List Condition → Type 0
-None [] = Unit
-None (c ∷ cs) = (c .holds ≡ false) × None cs
+pub exact-answers : ExactAnswers
+exact-answers c kind v rows =
+    rw (answers-first c kind v rows) (exactly 2 (conditions c kind (asRead (c .head) v) rows) (rising c kind (asRead (c .head) v) rows))
 
 never : {A : Type 0} {n : ℕ} {s : ContactSolved} → Refused n ≡ Done s → A
 never e = absurd (let z : _≡_ {A = ℕ} 0 1 = cc in omega arith)

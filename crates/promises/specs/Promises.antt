@@ -2,10 +2,7 @@
 -- Each is proved in proofs/Promises.antt. Assumes nothing.
 use Prim.Native.Nat.{ℕ, _<_}
 use mathlib.Core.Path.{_≡_}
-use mathlib.Core.Logic.{_↔_}
-use mathlib.Core.Bool.{Bool, true, false, _&&_, _||_}
-use mathlib.Core.List.{List, [], _∷_}
-use lib.Dec.{eqb}
+use mathlib.Core.Bool.{true, false}
 use Rattle.leaves.specs.Finite.{finite}
 use Rattle.velocity.specs.declared.Vels.{Vels}
 use Rattle.contact.specs.Contact.{isFloor}
@@ -14,23 +11,11 @@ use Rattle.contact.specs.declared.Contact.{Contact}
 use Rattle.contact.specs.declared.ContactPoint.{ContactPoint}
 use Rattle.kinds.specs.declared.ContactSolved.{ContactSolved}
 use Rattle.values.specs.Values.{finiteVel}
-use Rattle.step.specs.Step.{Condition, answer, asRead, branch, conditions, step}
+use Rattle.refusals.specs.Refusals.{Exactly}
+use Rattle.step.specs.Step.{answer, asRead, branch, conditions, step}
 use Rattle.step.specs.declared.Outcome.the-variants.{Done}
 
--- whether the condition of number n holds; a number that the list does not have has none
-unfoldable pub holdsFor : ℕ → List Condition → Bool
-holdsFor n [] = false
-holdsFor n (c ∷ cs) = eqb n (c .number) && c .holds || holdsFor n cs
-
--- number n's condition holds and no earlier number's does
-abbrev pub FirstOf : ℕ → List Condition → Type 0
-FirstOf n cs = (holdsFor n cs ≡ true) × ((m : ℕ) → m < n → holdsFor m cs ≡ false)
-
 -- "each refusal is given exactly when its number's condition holds and no earlier one does"; 0 exactly when none holds
-pub record Exactly (given : ℕ) (cs : List Condition) : Type 0 where
-  pub refused : (n : ℕ) → 0 < n → (given ≡ n) ↔ FirstOf n cs
-  pub success : (given ≡ 0) ↔ ((n : ℕ) → holdsFor n cs ≡ false)
-
 abbrev pub ExactAnswers : Type 0
 ExactAnswers = (c : Contact) (kind : ℕ) (v : Vels) (rows : ℕ) → Exactly (answer (step c kind v rows)) (conditions c kind (asRead (c .head) v) rows)
 

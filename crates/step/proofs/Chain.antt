@@ -9,7 +9,8 @@ use Rattle.kinds.specs.Kinds.{routine}
 use Rattle.contact.specs.declared.Contact.{Contact}
 use Rattle.kinds.specs.declared.ContactSolved.{ContactSolved}
 use Rattle.values.specs.Values.{unwritable}
-use Rattle.step.specs.Step.{Condition, _when_, asRead, asWritten, firstOr, step, tried}
+use Rattle.refusals.specs.Refusals.{Condition, _when_}
+use Rattle.step.specs.Step.{asRead, asWritten, firstOr, step, tried}
 use Rattle.step.specs.declared.Outcome.{Outcome}
 use Rattle.step.specs.declared.Outcome.the-variants.{Done, Refused}
 

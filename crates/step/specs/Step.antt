@@ -1,7 +1,6 @@
 -- Document 01, "Numbers that refuse" and "Tables": one step, as a function of a contact, a kind, the velocities of its two bodies and
 -- the number of rows of the body table. Assumes nothing.
 use Prim.Native.Nat.{ℕ}
-use mathlib.Core.Bool.{Bool}
 use mathlib.Core.List.{List, [], _∷_}
 use Rattle.leaves.specs.Floats.{if_then_else_}
 use Rattle.velocity.specs.Velocity.{rest}
@@ -14,6 +13,7 @@ use Rattle.contact.specs.declared.ContactHead.{ContactHead}
 use Rattle.kinds.specs.declared.ContactSolved.{ContactSolved}
 use Rattle.shape.specs.Shape.{kindAbove, pairOfOne, wrongBodies, wrongCount}
 use Rattle.values.specs.Values.{notFinite, outOfRange, unwritable}
+use Rattle.refusals.specs.Refusals.{Condition, _when_}
 use Rattle.step.specs.declared.Outcome.{Outcome}
 use Rattle.step.specs.declared.Outcome.the-variants.{Refused, Done}
 
@@ -34,15 +34,6 @@ writtenVels h old new = record { v1 = writes (h .body1) (old .v1) (new .v1); v2 
 unfoldable pub asWritten : ContactHead → Vels → Outcome → Outcome
 asWritten h old (Refused number) = Refused number
 asWritten h old (Done s) = Done (record { branch = s .branch; contact = s .contact; vels = writtenVels h old (s .vels) })
-
--- a number, and whether its condition holds
-pub record Condition : Type 0 where
-  pub number : ℕ
-  pub holds : Bool
-
-infix 70 _when_
-abbrev pub _when_ : ℕ → Bool → Condition
-n when b = record { number = n; holds = b }
 
 -- "Given exactly when", in number order; v is the velocities as they read. 10 looks at what the routine would write, the others at
 -- what was given. A kind above 4 is refused with the whole call, before any step; 3 stands here so that a step of any kind is answered

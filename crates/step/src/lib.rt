@@ -18,8 +18,9 @@ ghost use mathlib.Core.Path.{_≡_};
 ghost use mathlib.Core.List.{[], _∷_};
 ghost use Rattle.kinds.specs.Kinds.{routine};
 ghost use Rattle.values.specs.Values.{unwritable};
+ghost use Rattle.refusals.specs.Refusals.{_when_};
 ghost use Rattle.step.specs.Step.{answer, asRead, asWritten, branch, firstOr, reads, step};
-ghost use Rattle.step.specs.Step.{tried, writes, writtenVels, _when_};
+ghost use Rattle.step.specs.Step.{tried, writes, writtenVels};
 
 // Refused with its number, or done: the branch, the new contact and the new velocities.
 pub enum Outcome {

@@ -7,10 +7,7 @@ use mathlib.Core.List.{List, [], _∷_}
 use borrow.Author.Tests.{eq-eqb, ne-eqb, ltb-true, ltb-false}
 use lib.Dec.{eqb, ltb}
 use Rattle.leaves.proofs.Pick.{never}
-use Rattle.kinds.specs.declared.ContactSolved.{ContactSolved}
-use Rattle.promises.specs.Promises.{Exactly, FirstOf, holdsFor}
-use Rattle.step.specs.Step.{Condition, answer, firstOr}
-use Rattle.step.specs.declared.Outcome.the-variants.{Refused}
+use Rattle.refusals.specs.Refusals.{Condition, Exactly, FirstOf, first, holdsFor}
 
 -- every number of the list is above k, and they rise
 abbrev pub Rising : ℕ → List Condition → Type 0
@@ -35,14 +32,13 @@ module _ (c : Condition) (cs : List Condition) where
       drop true = refl
       drop false = refl
 
-  module _ (done : ContactSolved) where
-    taken : c .holds ≡ true → firstOr (c ∷ cs) done ≡ Refused (c .number)
-    unfolding firstOr
-    taken h = rw h
+  taken : c .holds ≡ true → first (c ∷ cs) ≡ c .number
+  unfolding first
+  taken h = rw h
 
-    left : c .holds ≡ false → firstOr (c ∷ cs) done ≡ firstOr cs done
-    unfolding firstOr
-    left h = rw h
+  left : c .holds ≡ false → first (c ∷ cs) ≡ first cs
+  unfolding first
+  left h = rw h
 
 -- a number that is not above k has no condition there
 none-below : (k : ℕ) (cs : List Condition) → Rising k cs → (m : ℕ) → m ≤ k → holdsFor m cs ≡ false
@@ -71,23 +67,23 @@ module _ (k : ℕ) (c : Condition) (cs : List Condition) (up : Rising k (c ∷ c
           let q : n ≤ c .number = ltb-false (c .number) n a in
           omega arith
 
-  exactly-here : (done : ContactSolved) → Exactly (answer (firstOr (c ∷ cs) done)) (c ∷ cs)
-  exactly-here done =
-      let answered : answer (firstOr (c ∷ cs) done) ≡ c .number = ap answer (taken c cs done h) in
+  exactly-here : Exactly (first (c ∷ cs)) (c ∷ cs)
+  exactly-here =
+      let given : first (c ∷ cs) ≡ c .number = taken c cs h in
       let low : k < c .number = up .0 in
       record {
-        refused = λ n pos. (λ e. first-of n (sym answered ∙ e), λ f. answered ∙ only-first n f);
+        refused = λ n pos. (λ e. first-of n (sym given ∙ e), λ f. given ∙ only-first n f);
         success = (
-          λ e. let z : c .number ≡ 0 = sym answered ∙ e in absurd (omega arith),
+          λ e. let z : c .number ≡ 0 = sym given ∙ e in absurd (omega arith),
           λ f. never (sym (own c cs h) ∙ f (c .number)),
         );
       }
 
 -- it does not hold: the answer is that of the rest
-module _ (c : Condition) (cs : List Condition) (h : c .holds ≡ false) (done : ContactSolved) where
-  exactly-later : Exactly (answer (firstOr cs done)) cs → Exactly (answer (firstOr (c ∷ cs) done)) (c ∷ cs)
+module _ (c : Condition) (cs : List Condition) (h : c .holds ≡ false) where
+  exactly-later : Exactly (first cs) cs → Exactly (first (c ∷ cs)) (c ∷ cs)
   exactly-later rest =
-      let same : answer (firstOr (c ∷ cs) done) ≡ answer (firstOr cs done) = ap answer (left c cs done h) in
+      let same : first (c ∷ cs) ≡ first cs = left c cs h in
       record {
         refused = λ n pos. (
           λ e. let f = rest .refused n pos .0 (sym same ∙ e) in (passed c cs n h ∙ f .0, λ m lt. passed c cs m h ∙ f .1 m lt),
@@ -99,14 +95,31 @@ module _ (c : Condition) (cs : List Condition) (h : c .holds ≡ false) (done : 
         );
       }
 
-pub exactly : (k : ℕ) (cs : List Condition) (done : ContactSolved) → Rising k cs → Exactly (answer (firstOr cs done)) cs
-unfolding firstOr holdsFor
-exactly k [] done up = record {
+pub exactly : (k : ℕ) (cs : List Condition) → Rising k cs → Exactly (first cs) cs
+unfolding first holdsFor
+exactly k [] up = record {
   refused = λ n pos. (λ e. absurd (omega arith), λ f. never (sym (f .0)));
   success = (λ e n. refl, λ f. refl);
 }
-exactly k (c ∷ cs) done up = by-case (exactly (c .number) cs done (up .1)) (c .holds) refl
+exactly k (c ∷ cs) up = by-case (exactly (c .number) cs (up .1)) (c .holds) refl
   where
-    by-case : Exactly (answer (firstOr cs done)) cs → (b : Bool) → c .holds ≡ b → Exactly (answer (firstOr (c ∷ cs) done)) (c ∷ cs)
-    by-case rest true h = exactly-here k c cs up h done
-    by-case rest false h = exactly-later c cs h done rest
+    by-case : Exactly (first cs) cs → (b : Bool) → c .holds ≡ b → Exactly (first (c ∷ cs)) (c ∷ cs)
+    by-case rest true h = exactly-here k c cs up h
+    by-case rest false h = exactly-later c cs h rest
+
+-- no condition of a list holds
+abbrev pub None : List Condition → Type 0
+None [] = Unit
+None (c ∷ cs) = (c .holds ≡ false) × None cs
+
+-- where 0 is given, none holds
+pub none-holds : (k : ℕ) (cs : List Condition) → Rising k cs → first cs ≡ 0 → None cs
+none-holds k [] up z = tt
+none-holds k (c ∷ cs) up z = by-case (c .holds) refl (none-holds (c .number) cs (up .1))
+  where
+    by-case : (b : Bool) → c .holds ≡ b → (first cs ≡ 0 → None cs) → (c .holds ≡ false) × None cs
+    by-case true h rest =
+        let low : k < c .number = up .0 in
+        let zero : c .number ≡ 0 = sym (taken c cs h) ∙ z in
+        absurd (omega arith)
+    by-case false h rest = (h, rest (sym (left c cs h) ∙ z))

@@ -1,0 +1,51 @@
+// The call that the workshop's programs make: tables, a list of steps and room for answers are lent,
+// and the steps are done one by one, unless the whole call is refused. It asks nothing of its caller.
+use checks::whole_call;
+use sweep::sweep;
+ghost use mathlib.Core.Path.{_≡_};
+ghost use Prim.Native.Nat.{min};
+ghost use Rattle.sweep.specs.Sweep.{tables};
+ghost use Rattle.call.specs.Demands.{Demand2};
+
+// The number that refuses the whole call, or 0; how many steps were done, and how many of those were
+// refused.
+pub struct Report {
+    pub refusal: u16,
+    pub done: usize,
+    pub refused: usize,
+}
+
+fn smaller(a: usize, b: usize) -> usize
+    ensures { λ r. ⌜ r ≡ min a b ⌝ }
+{
+    if a <= b { a } else { b }
+}
+
+// Bodies: 3 floats a row. Contacts: 3 numbers a row (body 1, body 2, count) and 45 floats a row.
+// Steps: 2 numbers a row (contact, kind). Room: 2 numbers a row (number, branch).
+pub fn call(
+    bodies: &mut [f32],
+    numbers: &[u16],
+    floats: &mut [f32],
+    steps: &[u16],
+    room: &mut [u16],
+    budget: usize,
+) -> Report
+    ensures { λ r. ⌜ Demand2 (record { tables = tables (now (bodies .entry)) (now (numbers .entry)) (now (floats .entry)); steps = now (steps .entry); room = now (room .entry) }) budget (record { refusal = r .refusal; done = r .done; refused = r .refused; tables = tables (now (bodies .exit)) (now (numbers .entry)) (now (floats .exit)); room = now (room .exit) }) ⌝ }
+{
+    let refusal = whole_call(bodies, numbers, floats, steps, room);
+    if refusal != 0 {
+        return Report {
+            refusal,
+            done: 0,
+            refused: 0,
+        };
+    }
+    let done = smaller(budget, steps.len() / 2);
+    let refused = sweep(bodies, numbers, floats, steps, room, done);
+    Report {
+        refusal: 0,
+        done,
+        refused,
+    }
+}

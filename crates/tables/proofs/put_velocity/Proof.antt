@@ -1,0 +1,74 @@
+use Rattle.rows.proofs.Lent.{row-written, row-past}
+use Rattle.tables.specs.Written.{putVel, velRow}
+use Rattle.leaves.proofs.Pick.{take, pass}
+use mathlib.Core.Path.{refl}
+use borrow.Author.Tests.{eq-eqb, ne-eqb}
+use borrow.Author.Needs.{needs}
+use Rattle.tables.proofs.put_velocity.Statement.{statement}
+use Rattle.tables.proofs.put_velocity.Tie as tie
+use Rattle.tables.proofs.put_velocity.Reads as reads
+use Rattle.tables.proofs.put_velocity.Lts as lts
+use Rattle.tables.proofs.store_velocity.Reads as store-velocity-reads
+
+-- src/lib.rt:185:9
+returns : tie.Need-returns
+unfolding putVel
+returns c = take _ (eq-eqb _ _ (c .if1 .taken)) refl
+
+-- src/lib.rt:189:17
+mul-i : tie.Need-mul-i
+mul-i c = search needs
+
+-- src/lib.rt:190:39
+add-store-velocity : tie.Need-add-store-velocity
+add-store-velocity c = search needs
+
+-- src/lib.rt:190:24
+mul-store-velocity : tie.Need-mul-store-velocity
+mul-store-velocity c = search needs
+
+-- src/lib.rt:190:24
+sub-store-velocity : tie.Need-sub-store-velocity
+sub-store-velocity c = search needs
+
+-- src/lib.rt:190:24
+part-store-velocity-start : tie.Need-part-store-velocity-start
+part-store-velocity-start c = search needs
+
+-- src/lib.rt:190:24
+part-store-velocity-end : tie.Need-part-store-velocity-end
+part-store-velocity-end c = search needs
+
+-- src/lib.rt:190:9
+store-velocity-requires : tie.Need-store-velocity-requires
+store-velocity-requires c κs = search needs
+
+-- src/lib.rt:181:1
+same-length : tie.Need-same-length
+same-length c = search needs
+
+-- src/lib.rt:181:1
+returns-2 : tie.Need-returns-2
+unfolding putVel
+returns-2 c = pass _ (ne-eqb _ _ (c .before .before .before .before .before .if1 .left)) (row-written 3 _ _ (λ _. velRow ((c .before .before .before .before .before .before .before .args .v))) (c .before .before .before .before .if2 .taken) (c .before .before .store-velocity .ensures))
+
+-- src/lib.rt:181:1
+returns-3 : tie.Need-returns-3
+unfolding putVel
+returns-3 c = pass _ (ne-eqb _ _ (c .before .if1 .left)) (row-past 3 _ _ (λ _. velRow ((c .before .before .before .args .v))) (c .if2 .left))
+
+pub put-velocity-spec : {M : Type 1} → statement M
+put-velocity-spec =
+    tie.close
+    (tie.spec
+    returns
+    mul-i
+    add-store-velocity
+    mul-store-velocity
+    sub-store-velocity
+    part-store-velocity-start
+    part-store-velocity-end
+    store-velocity-requires
+    same-length
+    returns-2
+    returns-3)
