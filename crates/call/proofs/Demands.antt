@@ -1,31 +1,32 @@
 -- The demands of specs/Demands.antt, of whatever meets the call's contract. Assumes nothing.
-use Prim.Native.Nat.{ℕ, zero, suc, _≤_, _<_, min}
+use Prim.Native.Nat.{ℕ, suc, _≤_, _<_}
 use native.Mathlib.Omega.{arith}
 use mathlib.Core.Bool.{Bool, true, false, not}
-use mathlib.Core.List.{List, [], _∷_}
+use mathlib.Core.List.{List}
 use mathlib.Core.Logic.{_≢_}
 use mathlib.Core.Path.{_≡_, refl, sym, _∙_, ap}
 use lib.Dec.{eqb, lit<, ltb}
-use borrow.Author.Tests.{eqb-false, eqb-true, ltb-false}
+use borrow.Author.Tests.{eqb-false, eqb-true}
 use Rattle.leaves.specs.Floats.{if_then_else_}
+use Rattle.leaves.proofs.Pick.{take, pass}
 use Rattle.contact.specs.declared.Contact.{Contact}
 use Rattle.step.specs.Step.{answer, asRead, conditions, step}
 use Rattle.promises.proofs.Promises.{answers-first, rising}
-use Rattle.refusals.specs.Refusals.{Condition, Exactly, _when_, first}
-use Rattle.refusals.proofs.Exact.{Rising, exactly}
+use Rattle.refusals.specs.Refusals.{Condition, Exactly, first}
+use Rattle.refusals.proofs.Exact.{exactly}
 use Rattle.rows.specs.Rows.{row, rows}
-use Rattle.tables.specs.Read.{answerOf, stepAt}
-use Rattle.tables.specs.Written.{answerRow}
-use Rattle.tables.specs.declared.Answer.{Answer}
+use Rattle.cells.specs.Cells.{answerOf}
+use Rattle.tables.specs.Tables.{stepAt}
+use Rattle.cells.specs.declared.Answer.{Answer}
 use Rattle.tables.specs.declared.Step.{Step}
-use Rattle.tables.proofs.Kept.{read-answer}
-use Rattle.order.specs.OneByOne.{finish}
-use Rattle.sweep.specs.Sweep.{Swept, Tables, firstSteps, itsContact, stepOn, sweep, velsAt}
+use Rattle.cells.proofs.Kept.{read-answer}
+use Rattle.sweep.specs.Sweep.{Swept, Tables, itsContact, stepOn, sweep, velsAt}
 use Rattle.sweep.proofs.Steps.{number-of, refused-keeps}
-use Rattle.sweep.proofs.Room.{answer-row, tables-are, tables-suc}
+use Rattle.sweep.proofs.Room.{answer-row, room-past, tables-are, tables-suc}
 use Rattle.checks.specs.Checks.{wholeCall}
 use Rattle.checks.proofs.Passed as passed
 use Rattle.call.specs.Call.{Ended, Lent, allDone, nothingDone, oneByOne, stepsDone}
+use Rattle.call.specs.Room.{RoomKept}
 use Rattle.call.specs.Demands.{Demand1, Demand2, before, numberOf, ofStep}
 
 -- a step's number is the first of its conditions
@@ -72,8 +73,8 @@ module _ (lent : Lent) (budget : ℕ) (e : Ended) (so : Demand2 lent budget e) w
   how = by-case (eqb number 0) refl
     where
       by-case : (b : Bool) → eqb number 0 ≡ b → How
-      by-case true z = all-done (eqb-true number 0 z) (so ∙ rw z)
-      by-case false nz = refused-by (eqb-false number 0 nz) (so ∙ rw nz)
+      by-case true z = all-done (eqb-true number 0 z) (so ∙ sym (take _ z refl))
+      by-case false nz = refused-by (eqb-false number 0 nz) (so ∙ sym (pass _ nz refl))
 
   -- its refusal is the first of the whole call's conditions
   is-number : How → e .refusal ≡ number
@@ -123,6 +124,13 @@ module _ (lent : Lent) (budget : ℕ) (e : Ended) (so : Demand2 lent budget e) w
       let many : e .done ≡ done = ap (λ (x : Ended). x .done) is in
       (many, ap (λ (x : Ended). x .tables) is ∙ rw many (tables-are (lent .steps) (lent .tables) (lent .room) done))
 
+  past-done : How → RoomKept lent e
+  unfolding nothingDone allDone
+  past-done (refused-by nz is) i h = ap (λ (x : Ended). row 2 i (x .room)) is
+  past-done (all-done z is) i h =
+      let many : e .done ≡ done = ap (λ (x : Ended). x .done) is in
+      ap (λ (x : Ended). row 2 i (x .room)) is ∙ room-past (lent .steps) (lent .tables) (lent .room) done i (omega arith)
+
 pub demand1 : (lent : Lent) (budget : ℕ) (e : Ended) → Demand2 lent budget e → Demand1 lent budget e
 demand1 lent budget e so =
     let ended = how lent budget e so in
@@ -136,3 +144,6 @@ demand1 lent budget e so =
           ∙ refused-keeps (stepAt (lent .steps) i) (before lent i) (λ z. ne (number-is lent budget e so i h ∙ z));
       goes-on = went-on lent budget e so ended;
     }
+
+pub room-kept : (lent : Lent) (budget : ℕ) (e : Ended) → Demand2 lent budget e → RoomKept lent e
+room-kept lent budget e so = past-done lent budget e so (how lent budget e so)

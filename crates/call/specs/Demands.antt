@@ -9,7 +9,8 @@ use lib.Dec.{ltb}
 use Rattle.step.specs.Step.{asRead, conditions}
 use Rattle.refusals.specs.Refusals.{Condition, Exactly, _when_}
 use Rattle.rows.specs.Rows.{row, rows}
-use Rattle.tables.specs.Read.{answerOf, stepAt}
+use Rattle.cells.specs.Cells.{answerOf}
+use Rattle.tables.specs.Tables.{stepAt}
 use Rattle.tables.specs.declared.Step.{Step}
 use Rattle.order.specs.OneByOne.{finish}
 use Rattle.sweep.specs.Sweep.{Tables, firstSteps, itsContact, stepOn, velsAt}

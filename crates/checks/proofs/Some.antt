@@ -7,7 +7,7 @@ use mathlib.Core.Bool.{Bool, true, false, _||_}
 use mathlib.Core.List.{List}
 use mathlib.Core.Logic.{⊎-elim}
 use mathlib.Core.Path.{_≡_, refl, sym, _∙_, ap}
-use Rattle.tables.specs.Read.{stepAt}
+use Rattle.tables.specs.Tables.{stepAt}
 use Rattle.tables.specs.declared.Step.{Step}
 use Rattle.order.specs.OneByOne.{any}
 use Rattle.order.proofs.Snoc.{any-none, any-snoc}

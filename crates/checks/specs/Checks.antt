@@ -1,7 +1,7 @@
 -- Document 01, "Numbers that refuse": the conditions of numbers 1 to 4, which refuse a whole call. t is the tables, steps the list and
 -- room the room for answers, each as lent. Assumes nothing.
 use Prim.Native.Nat.{ℕ, _%_}
-use mathlib.Core.Bool.{Bool, not, _&&_, _||_}
+use mathlib.Core.Bool.{Bool, not, _||_}
 use mathlib.Core.List.{List, [], _∷_}
 use lib.Dec.{eqb, ltb}
 use lib.ListN.{length}

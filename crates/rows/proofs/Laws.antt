@@ -1,5 +1,5 @@
 -- The laws of rows, from those of parts. Assumes nothing.
-use Prim.Native.Nat.{ℕ, zero, suc, _+_, _*_, _/_, _≤_, _<_}
+use Prim.Native.Nat.{ℕ, suc, _+_, _*_, _/_, _≤_, _<_}
 use native.Mathlib.Omega.{arith}
 use native.Mathlib.Nat.{div-mul-le-self, mul-le-mul-right, zero-div}
 use native.Mathlib.Decide.{decLt}

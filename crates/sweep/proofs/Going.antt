@@ -5,16 +5,19 @@ use native.Mathlib.Nat.{add-suc, add-zero, suc-add, zero-add}
 use native.Mathlib.Numerals.{add-one}
 use mathlib.Core.Bool.{Bool, true, false}
 use mathlib.Core.List.{List, [], _∷_, _++_}
-use mathlib.Core.Path.{_≡_, refl, sym, _∙_, ap}
+use mathlib.Core.Path.{_≡_, refl, _∙_, ap}
 use lib.Ieee.{Float}
 use lib.ListN.{length, length-append}
+use mir.Syntax.{w64}
+use mir.Val.{Fits}
 use Rattle.leaves.specs.Floats.{if_then_else_}
-use Rattle.tables.specs.Read.{stepAt}
-use Rattle.tables.specs.Written.{putAnswer}
-use Rattle.tables.specs.declared.Answer.{Answer}
+use Rattle.tables.specs.Tables.{stepAt}
+use Rattle.cells.specs.Cells.{putAnswer}
+use Rattle.cells.specs.declared.Answer.{Answer}
 use Rattle.tables.specs.declared.Step.{Step}
-use Rattle.order.specs.OneByOne.{Stepped, answers, count, finish}
+use Rattle.order.specs.OneByOne.{answers, count, finish}
 use Rattle.order.proofs.Snoc.{answers-snoc, count-le, count-snoc, finish-snoc, length-answers}
+use Rattle.sweep.specs.Turn.{Turned}
 use Rattle.sweep.specs.Sweep.{Swept, Tables, firstSteps, isRefused, laid, stepOn, sweep, swept, tables}
 
 -- the list's first steps, one more at a time
@@ -85,6 +88,11 @@ pub record Going (steps : List ℕ) (n : ℕ) (b₀ : List Float) (numbers : Lis
   pub floats-long : length f ≡ length f₀
   pub room-long : length room ≡ length room₀
 
+-- a step read, done, and its answer laid
+pub turned : (steps : List ℕ) (i : ℕ) (t : Tables) (room : List ℕ) {s : Step} {a : Answer} {t′ : Tables} {room′ : List ℕ} → s ≡ stepAt steps i
+    → record { answer = a; after = t′ } ≡ stepOn s t → room′ ≡ putAnswer room i a → Turned steps i t room a t′ room′
+turned steps i t room es ea er = record { done = rw (← es) ea; told = er }
+
 module _ (steps : List ℕ) (n : ℕ) (b₀ : List Float) (numbers : List ℕ) (f₀ : List Float) (room₀ : List ℕ) where
   pub start-going : Going steps n b₀ numbers f₀ room₀ b₀ f₀ room₀ 0 0
   unfolding sweep firstSteps finish answers laid count
@@ -92,23 +100,23 @@ module _ (steps : List ℕ) (n : ℕ) (b₀ : List Float) (numbers : List ℕ) (
 
   module _ (b f : List Float) (room : List ℕ) (i refused : ℕ) (going : Going steps n b₀ numbers f₀ room₀ b f room i refused) where
     -- one step more
-    pub go-on : (b′ f′ : List Float) (room′ : List ℕ) (s : Step) (a : Answer) (r : ℕ) → i < n → s ≡ stepAt steps i
-        → record { answer = a; after = tables b′ numbers f′ } ≡ stepOn s (tables b numbers f) → room′ ≡ putAnswer room i a
-        → r ≡ (if isRefused a then 1 else 0) → length b′ ≡ length b → length f′ ≡ length f → length room′ ≡ length room
+    pub go-on : (b′ f′ : List Float) (room′ : List ℕ) (a : Answer) (r : ℕ) → i < n
+        → Turned steps i (tables b numbers f) room a (tables b′ numbers f′) room′ → r ≡ (if isRefused a then 1 else 0)
+        → length b′ ≡ length b → length f′ ≡ length f → length room′ ≡ length room
         → Going steps n b₀ numbers f₀ room₀ b′ f′ room′ (i + 1) (refused + r)
-    go-on b′ f′ room′ s a r h es ea er ec kb kf kr =
+    go-on b′ f′ room′ a r h turned ec kb kf kr =
         let so = going .so-far in
         record {
-          so-far = rw (add-one, sweep-suc steps (tables b₀ numbers f₀) room₀ i, ← so, ← es, ← ea, er, ec);
+          so-far = rw (add-one, sweep-suc steps (tables b₀ numbers f₀) room₀ i, ← so, ← turned .done, turned .told, ec);
           within = omega arith;
           bodies-long = kb ∙ going .bodies-long;
           floats-long = kf ∙ going .floats-long;
           room-long = kr ∙ going .room-long;
         }
 
-    -- no more were refused than were done
-    pub counted : (a : Answer) {r : ℕ} → r ≡ (if isRefused a then 1 else 0) → refused + r ≤ i + 1
-    counted a e =
+    -- the count fits where n does: no more were refused than were done
+    pub count-fits : (a : Answer) {r : ℕ} → i < n → Fits w64 n → r ≡ (if isRefused a then 1 else 0) → Fits w64 (refused + r)
+    count-fits a h fits e =
         omega (arith, few-refused steps (tables b₀ numbers f₀) room₀ i, ap (λ (w : Swept). w .refused) (going .so-far), e, refusal-le a)
 
     -- at the end

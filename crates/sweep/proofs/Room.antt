@@ -1,17 +1,17 @@
 -- What a list leaves in the room: each step's answer in its own row, every later row as it was. Assumes nothing.
-use Prim.Native.Nat.{ℕ, zero, suc, _/_, _≤_, _<_}
+use Prim.Native.Nat.{ℕ, zero, suc, _≤_, _<_}
 use native.Mathlib.Omega.{arith}
 use native.Mathlib.Nat.{eq-or-lt-of-le, le-of-suc-le-suc, not-suc-le-zero}
 use mathlib.Core.List.{List}
-use mathlib.Core.Logic.{_≢_, ⊎-elim}
-use mathlib.Core.Path.{_≡_, refl, sym, _∙_, ap}
+use mathlib.Core.Logic.{⊎-elim}
+use mathlib.Core.Path.{_≡_, refl, _∙_, ap}
 use lib.ListN.{length}
 use Rattle.rows.specs.Rows.{row, rows}
-use Rattle.tables.specs.Read.{stepAt}
-use Rattle.tables.specs.Written.{answerRow, putAnswer}
-use Rattle.tables.specs.declared.Answer.{Answer}
-use Rattle.tables.proofs.Kept.{answer-elsewhere, answer-there, room-as-long}
-use Rattle.order.specs.OneByOne.{answers, count, finish}
+use Rattle.tables.specs.Tables.{stepAt}
+use Rattle.cells.specs.Cells.{answerRow, putAnswer}
+use Rattle.cells.specs.declared.Answer.{Answer}
+use Rattle.cells.proofs.Kept.{answer-elsewhere, answer-there, room-as-long}
+use Rattle.order.specs.OneByOne.{answers, finish}
 use Rattle.sweep.specs.Sweep.{Swept, Tables, firstSteps, laid, stepOn, sweep}
 use Rattle.sweep.proofs.Going.{sweep-suc}
 

@@ -3,7 +3,7 @@ use Prim.Native.Nat.{ℕ}
 use mathlib.Core.Bool.{Bool, true, false}
 use mathlib.Core.List.{List}
 use mathlib.Core.Logic.{_≢_}
-use mathlib.Core.Path.{_≡_, refl, sym, _∙_, ap}
+use mathlib.Core.Path.{_≡_, refl}
 use lib.Dec.{ltb}
 use lib.Ieee.{Float}
 use Rattle.leaves.specs.Floats.{if_then_else_}
@@ -15,11 +15,10 @@ use Rattle.step.specs.Step.{answer, step}
 use Rattle.step.specs.declared.Outcome.{Outcome}
 use Rattle.step.specs.declared.Outcome.the-variants.{Refused, Done}
 use Rattle.rows.specs.Rows.{rows}
-use Rattle.tables.specs.Read.{contactAt}
-use Rattle.tables.specs.Written.{putImpulses, putVel}
-use Rattle.tables.specs.declared.Answer.{Answer}
+use Rattle.tables.specs.Tables.{contactAt}
+use Rattle.cells.specs.Cells.{putImpulses, putVel}
+use Rattle.cells.specs.declared.Answer.{Answer}
 use Rattle.tables.specs.declared.Step.{Step}
-use Rattle.order.specs.OneByOne.{Stepped}
 use Rattle.sweep.specs.Sweep.{Tables, answered, itsContact, judged, newBodies, newFloats, outcome, stepOn, tables, velsAt}
 
 -- a refused step writes nothing

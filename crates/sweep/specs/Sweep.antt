@@ -12,9 +12,9 @@ use Rattle.step.specs.Step.{answer, branch, step}
 use Rattle.step.specs.declared.Outcome.{Outcome}
 use Rattle.step.specs.declared.Outcome.the-variants.{Refused, Done}
 use Rattle.rows.specs.Rows.{rows}
-use Rattle.tables.specs.Read.{contactAt, stepAt, velAt}
-use Rattle.tables.specs.Written.{putAnswer, putImpulses, putVel}
-use Rattle.tables.specs.declared.Answer.{Answer}
+use Rattle.tables.specs.Tables.{contactAt, stepAt, velAt}
+use Rattle.cells.specs.Cells.{putAnswer, putImpulses, putVel}
+use Rattle.cells.specs.declared.Answer.{Answer}
 use Rattle.tables.specs.declared.Step.{Step}
 use Rattle.order.specs.OneByOne.{Stepped, answers, count, finish}
 

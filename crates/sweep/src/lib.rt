@@ -1,23 +1,22 @@
 // A step on the tables, and a list of steps, one by one. A step copies its contact and two
 // velocities out, is judged and worked on the copies, and writes back all of its result or nothing.
+use cells::Answer;
+use cells::put_answer;
+use cells::put_impulses;
+use cells::put_velocity;
 use contact::ContactHead;
 use step::Outcome;
 use step::step;
-use tables::Answer;
 use tables::Step;
 use tables::contact_at;
-use tables::put_answer;
-use tables::put_impulses;
-use tables::put_velocity;
 use tables::step_at;
 use tables::velocity_at;
 use velocity::Vels;
 ghost use mathlib.Core.Path.{_≡_};
-ghost use mathlib.Core.Bool.{not};
-ghost use lib.Dec.{eqb};
 ghost use Rattle.leaves.specs.Floats.{if_then_else_};
 ghost use Rattle.sweep.specs.Sweep.{answered, isRefused, judged, newBodies, newFloats};
 ghost use Rattle.sweep.specs.Sweep.{stepOn, sweep, swept, tables, velsAt};
+ghost use Rattle.sweep.specs.Turn.{Turned};
 
 // Copies of the velocities of a contact's bodies.
 fn velocities(bodies: &[f32], head: ContactHead) -> Vels
@@ -89,6 +88,23 @@ pub fn step_on(bodies: &mut [f32], numbers: &[u16], floats: &mut [f32], s: Step)
     answered(outcome)
 }
 
+// Step i of the list: done on the tables, its answer laid into row i of the room.
+fn turn(
+    bodies: &mut [f32],
+    numbers: &[u16],
+    floats: &mut [f32],
+    steps: &[u16],
+    room: &mut [u16],
+    i: usize,
+) -> Answer
+    ensures { λ r. ⌜ Turned (now (steps .entry)) i (tables (now (bodies .entry)) (now (numbers .entry)) (now (floats .entry))) (now (room .entry)) r (tables (now (bodies .exit)) (now (numbers .entry)) (now (floats .exit))) (now (room .exit)) ⌝ }
+{
+    let s = step_at(steps, i);
+    let answer = step_on(bodies, numbers, floats, s);
+    put_answer(room, i, answer);
+    answer
+}
+
 // 1 for a refusal, else 0.
 fn refusal(answer: Answer) -> usize
     ensures { λ r. ⌜ r ≡ (if isRefused answer then 1 else 0) ⌝ }
@@ -110,9 +126,7 @@ pub fn sweep(
     let mut i = 0;
     let mut refused = 0;
     while i < n {
-        let s = step_at(steps, i);
-        let answer = step_on(bodies, numbers, floats, s);
-        put_answer(room, i, answer);
+        let answer = turn(bodies, numbers, floats, steps, room, i);
         refused += refusal(answer);
         i += 1;
     }

@@ -1,54 +1,39 @@
+-- `call::call` meets its contract. Refused, or the list done. Assumes nothing.
 use Rattle.call.proofs.Ends.{call-done, call-refused}
 use borrow.Author.Needs.{needs}
 use Rattle.call.proofs.call.Statement.{statement}
 use Rattle.call.proofs.call.Tie as tie
-use Rattle.call.proofs.call.Reads as reads
-use Rattle.call.proofs.call.Lts as lts
-use Rattle.call.proofs.smaller.Reads as smaller-reads
-use Rattle.checks.proofs.whole_call.Reads as whole-call-reads
-use Rattle.sweep.proofs.sweep.Reads as sweep-reads
 
--- src/lib.rt:36:9
 whole-call-requires : tie.Need-whole-call-requires
 whole-call-requires c κs = search needs
 
--- src/lib.rt:38:9
 same-length : tie.Need-same-length
 same-length c = search needs
 
--- src/lib.rt:38:9
 same-length-2 : tie.Need-same-length-2
 same-length-2 c = search needs
 
--- src/lib.rt:38:9
 same-length-3 : tie.Need-same-length-3
 same-length-3 c = search needs
 
--- src/lib.rt:38:9
 returns : tie.Need-returns
 returns c = search call-refused
 
--- src/lib.rt:44:9
 smaller-requires : tie.Need-smaller-requires
 smaller-requires c κs = search needs
 
--- src/lib.rt:45:9
 sweep-requires : tie.Need-sweep-requires
 sweep-requires c κs = search needs
 
--- src/lib.rt:26:1
 same-length-4 : tie.Need-same-length-4
 same-length-4 c = search needs
 
--- src/lib.rt:26:1
 same-length-5 : tie.Need-same-length-5
 same-length-5 c = search needs
 
--- src/lib.rt:26:1
 same-length-6 : tie.Need-same-length-6
 same-length-6 c = search needs
 
--- src/lib.rt:26:1
 returns-2 : tie.Need-returns-2
 returns-2 c = search call-done
 

@@ -1,81 +1,61 @@
+-- `call_run::call_on_fronts` meets its contract. Each front lies in its stretch. Assumes nothing.
 use mathlib.Core.Path.{sym}
 use lib.Seq.{length-take-le}
 use borrow.Author.Needs.{needs}
 use Rattle.call_run.proofs.call_on_fronts.Statement.{statement}
 use Rattle.call_run.proofs.call_on_fronts.Tie as tie
-use Rattle.call_run.proofs.call_on_fronts.Reads as reads
-use Rattle.call_run.proofs.call_on_fronts.Lts as lts
-use Rattle.call.proofs.call.Reads as call-reads
 
--- src/main.rt:323:9
 returns : tie.Need-returns
 returns c = search needs
 
--- src/main.rt:326:9
 returns-2 : tie.Need-returns-2
 returns-2 c = search needs
 
--- src/main.rt:329:9
 returns-3 : tie.Need-returns-3
 returns-3 c = search needs
 
--- src/main.rt:332:9
 returns-4 : tie.Need-returns-4
 returns-4 c = search needs
 
--- src/main.rt:335:9
 returns-5 : tie.Need-returns-5
 returns-5 c = search needs
 
--- src/main.rt:338:9
 slice-relend-prefix-call : tie.Need-slice-relend-prefix-call
 slice-relend-prefix-call c = search needs
 
--- src/main.rt:338:9
 slice-aggregate-call : tie.Need-slice-aggregate-call
 slice-aggregate-call c = sym (length-take-le _ _ (c .before .before .before .before .before .if1 .left))
 
--- src/main.rt:339:9
 slice-aggregate-call-2 : tie.Need-slice-aggregate-call-2
 slice-aggregate-call-2 c = sym (length-take-le _ _ (c .before .before .before .before .before .if2 .left))
 
--- src/main.rt:340:9
 slice-relend-prefix-call-2 : tie.Need-slice-relend-prefix-call-2
 slice-relend-prefix-call-2 c = search needs
 
--- src/main.rt:340:9
 slice-aggregate-call-3 : tie.Need-slice-aggregate-call-3
 slice-aggregate-call-3 c = sym (length-take-le _ _ (c .before .before .before .before .before .if3 .left))
 
--- src/main.rt:341:9
 slice-aggregate-call-4 : tie.Need-slice-aggregate-call-4
 slice-aggregate-call-4 c = sym (length-take-le _ _ (c .before .before .before .before .before .if4 .left))
 
--- src/main.rt:342:9
 slice-relend-prefix-call-3 : tie.Need-slice-relend-prefix-call-3
 slice-relend-prefix-call-3 c = search needs
 
--- src/main.rt:342:9
 slice-aggregate-call-5 : tie.Need-slice-aggregate-call-5
 slice-aggregate-call-5 c = sym (length-take-le _ _ (c .before .before .before .before .before .if5 .left))
 
--- src/main.rt:337:5
 call-requires : tie.Need-call-requires
 call-requires c κs = search needs
 
--- src/main.rt:303:1
 same-length : tie.Need-same-length
 same-length c = search needs
 
--- src/main.rt:303:1
 same-length-2 : tie.Need-same-length-2
 same-length-2 c = search needs
 
--- src/main.rt:303:1
 same-length-3 : tie.Need-same-length-3
 same-length-3 c = search needs
 
--- src/main.rt:303:1
 returns-6 : tie.Need-returns-6
 returns-6 c = search needs
 

@@ -1,12 +1,11 @@
+-- `call_run::set_all` ends: the loop counts up to the end. Assumes nothing.
 use Prim.Native.Nat.{_-_}
 use native.Mathlib.Omega.{arith}
 use borrow.Author.Needs.{needs}
 use mathlib.Core.Path.{_≡_}
-use lib.ListN.{length, length-set}
+use lib.ListN.{length}
 use Rattle.call_run.proofs.set_all.Statement.{statement}
 use Rattle.call_run.proofs.set_all.Tie as tie
-use Rattle.call_run.proofs.set_all.Reads as reads
-use Rattle.call_run.proofs.set_all.Lts as lts
 
 abbrev Inv-loop : tie.InvT-loop
 Inv-loop s₀ x i₀ s i = length s ≡ length s₀
@@ -14,35 +13,27 @@ Inv-loop s₀ x i₀ s i = length s ≡ length s₀
 abbrev μ-loop : tie.MeasureT-loop
 μ-loop s₀ x i₀ s i = length s₀ - i
 
--- src/main.rt:126:5
 loop-holds : tie.Need-loop-holds Inv-loop μ-loop
 loop-holds c = search needs
 
--- src/main.rt:127:9
 mul-s : tie.Need-mul-s Inv-loop μ-loop
 mul-s c = search needs
 
--- src/main.rt:127:9
 slice-write-s : tie.Need-slice-write-s Inv-loop μ-loop
 slice-write-s c = search needs
 
--- src/main.rt:128:9
 add-i : tie.Need-add-i Inv-loop μ-loop
 add-i c = omega arith
 
--- src/main.rt:126:5
 loop-less : tie.Need-loop-less Inv-loop μ-loop
 loop-less c = omega arith
 
--- src/main.rt:126:5
 loop-again : tie.Need-loop-again Inv-loop μ-loop
 loop-again c = search needs
 
--- src/main.rt:124:1
 same-length : tie.Need-same-length Inv-loop μ-loop
 same-length c = search needs
 
--- src/main.rt:124:1
 returns : tie.Need-returns Inv-loop μ-loop
 returns c = search needs
 

@@ -1,13 +1,9 @@
+-- `call_run::spoil` ends: the loop counts up to 51. Assumes nothing.
 use Prim.Native.Nat.{_-_}
 use native.Mathlib.Omega.{arith}
 use borrow.Author.Needs.{needs}
 use Rattle.call_run.proofs.spoil.Statement.{statement}
 use Rattle.call_run.proofs.spoil.Tie as tie
-use Rattle.call_run.proofs.spoil.Reads as reads
-use Rattle.call_run.proofs.spoil.Lts as lts
-use Rattle.call_run.proofs.put_digit.Reads as put-digit-reads
-use Rattle.call_run.proofs.spoiled.Reads as spoiled-reads
-use Rattle.io.proofs.write_all.Reads as write-all-reads
 
 abbrev Inv-loop : tie.InvT-loop
 Inv-loop what x body1 body2 count kind i₀ t8 i = Unit
@@ -15,47 +11,36 @@ Inv-loop what x body1 body2 count kind i₀ t8 i = Unit
 abbrev μ-loop : tie.MeasureT-loop
 μ-loop what x body1 body2 count kind i₀ t8 i = 51 - i
 
--- src/main.rt:95:5
 write-all-requires : tie.Need-write-all-requires Inv-loop μ-loop
 write-all-requires c κs = search needs
 
--- src/main.rt:97:5
 loop-holds : tie.Need-loop-holds Inv-loop μ-loop
 loop-holds c = tt
 
--- src/main.rt:98:19
 spoiled-requires : tie.Need-spoiled-requires Inv-loop μ-loop
 spoiled-requires c κs = search needs
 
--- src/main.rt:98:19
 cast-put-digit : tie.Need-cast-put-digit Inv-loop μ-loop
 cast-put-digit c = search needs
 
--- src/main.rt:98:9
 put-digit-requires : tie.Need-put-digit-requires Inv-loop μ-loop
 put-digit-requires c κs = search needs
 
--- src/main.rt:99:9
 add-i : tie.Need-add-i Inv-loop μ-loop
 add-i c = omega arith
 
--- src/main.rt:97:5
 loop-less : tie.Need-loop-less Inv-loop μ-loop
 loop-less c = omega arith
 
--- src/main.rt:97:5
 loop-again : tie.Need-loop-again Inv-loop μ-loop
 loop-again c = tt
 
--- src/main.rt:101:34
 slice-aggregate-write-all : tie.Need-slice-aggregate-write-all Inv-loop μ-loop
 slice-aggregate-write-all c = search needs
 
--- src/main.rt:101:5
 write-all-requires-2 : tie.Need-write-all-requires-2 Inv-loop μ-loop
 write-all-requires-2 c κs = search needs
 
--- src/main.rt:94:1
 returns : tie.Need-returns Inv-loop μ-loop
 returns c = search needs
 

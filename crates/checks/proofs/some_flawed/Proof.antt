@@ -1,3 +1,4 @@
+-- `checks::some_flawed` meets its contract. No step before i has the flaw. Assumes nothing.
 use Prim.Native.Nat.{_-_, _≤_}
 use native.Mathlib.Omega.{arith}
 use mathlib.Core.Bool.{false}
@@ -7,10 +8,6 @@ use Rattle.checks.specs.Checks.{flawed, someFlawed}
 use Rattle.checks.proofs.Some.{none-found, none-more, none-yet, one-found, someOf}
 use Rattle.checks.proofs.some_flawed.Statement.{statement}
 use Rattle.checks.proofs.some_flawed.Tie as tie
-use Rattle.checks.proofs.some_flawed.Reads as reads
-use Rattle.checks.proofs.some_flawed.Lts as lts
-use Rattle.checks.proofs.flawed.Reads as flawed-reads
-use Rattle.tables.proofs.step_at.Reads as step-at-reads
 
 abbrev Inv-loop : tie.InvT-loop
 Inv-loop flaw contacts steps n i₀ i = (i ≤ n) × (someOf (flawed flaw contacts) steps i ≡ false)
@@ -18,36 +15,28 @@ Inv-loop flaw contacts steps n i₀ i = (i ≤ n) × (someOf (flawed flaw contac
 abbrev μ-loop : tie.MeasureT-loop
 μ-loop flaw contacts steps n i₀ i = n - i
 
--- src/lib.rt:67:5
 loop-holds : tie.Need-loop-holds Inv-loop μ-loop
 loop-holds c = (omega arith, none-yet _ _)
 
--- src/lib.rt:68:13
 step-at-requires : tie.Need-step-at-requires Inv-loop μ-loop
 step-at-requires c κs = search needs
 
--- src/lib.rt:69:12
 flawed-requires : tie.Need-flawed-requires Inv-loop μ-loop
 flawed-requires c κs = search needs
 
--- src/lib.rt:70:13
 returns : tie.Need-returns Inv-loop μ-loop
 unfolding someFlawed
 returns c = one-found _ _ _ _ (c .before .before .before .loop-test .taken) (c .before .before .step-at .ensures) (c .before .flawed .ensures) (c .if1 .taken)
 
--- src/lib.rt:72:9
 add-i : tie.Need-add-i Inv-loop μ-loop
 add-i c = omega arith
 
--- src/lib.rt:67:5
 loop-less : tie.Need-loop-less Inv-loop μ-loop
 loop-less c = omega arith
 
--- src/lib.rt:67:5
 loop-again : tie.Need-loop-again Inv-loop μ-loop
 loop-again c = (omega arith, none-more _ _ _ ((c .before .before .before .before .loop .inv .1)) (c .before .before .step-at .ensures) (c .before .flawed .ensures) (c .if1 .left))
 
--- src/lib.rt:62:1
 returns-2 : tie.Need-returns-2 Inv-loop μ-loop
 unfolding someFlawed
 returns-2 c = none-found _ _ _ _ ((c .before .loop .inv .0)) (c .loop-test .left) ((c .before .loop .inv .1))

@@ -1,3 +1,4 @@
+-- `sweep::judged` meets its contract. By whether the contact is there. Assumes nothing.
 use Rattle.sweep.specs.Sweep.{judged}
 use Rattle.leaves.proofs.Pick.{take, pass}
 use mathlib.Core.Path.{refl}
@@ -5,19 +6,14 @@ use borrow.Author.Tests.{lt-ltb, le-ltb}
 use borrow.Author.Needs.{needs}
 use Rattle.sweep.proofs.judged.Statement.{statement}
 use Rattle.sweep.proofs.judged.Tie as tie
-use Rattle.sweep.proofs.judged.Reads as reads
-use Rattle.sweep.proofs.judged.Lts as lts
 
--- src/lib.rt:36:9
 cast-if1 : tie.Need-cast-if1
 cast-if1 c = search needs
 
--- src/lib.rt:37:9
 returns : tie.Need-returns
 unfolding judged
 returns c = take _ (lt-ltb _ _ (c .if1 .taken)) refl
 
--- src/lib.rt:33:1
 returns-2 : tie.Need-returns-2
 unfolding judged
 returns-2 c = pass _ (le-ltb _ _ (c .if1 .left)) refl

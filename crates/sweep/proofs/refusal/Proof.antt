@@ -1,18 +1,16 @@
-use Rattle.leaves.proofs.Pick.{take, pass}
-use mathlib.Core.Path.{refl}
+-- `sweep::refusal` meets its contract. By the number. Assumes nothing.
+use mathlib.Core.Bool.{not}
+use mathlib.Core.Path.{ap, refl}
 use borrow.Author.Tests.{eq-eqb, ne-eqb}
+use Rattle.leaves.proofs.Pick.{take, pass}
 use Rattle.sweep.proofs.refusal.Statement.{statement}
 use Rattle.sweep.proofs.refusal.Tie as tie
-use Rattle.sweep.proofs.refusal.Reads as reads
-use Rattle.sweep.proofs.refusal.Lts as lts
 
--- src/lib.rt:110:1
 returns : tie.Need-returns
-returns c = rw (eq-eqb _ _ (c .if1 .taken))
+returns c = pass 1 (ap not (eq-eqb _ _ (c .if1 .taken))) refl
 
--- src/lib.rt:110:1
 returns-2 : tie.Need-returns-2
-returns-2 c = rw (ne-eqb _ _ (c .if1 .left))
+returns-2 c = take 0 (ap not (ne-eqb _ _ (c .if1 .left))) refl
 
 pub refusal-spec : {M : Type 1} → statement M
 refusal-spec = tie.close (tie.spec returns returns-2)

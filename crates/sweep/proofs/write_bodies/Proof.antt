@@ -1,35 +1,27 @@
+-- `sweep::write_bodies` meets its contract. By the outcome's case. Assumes nothing.
 use Rattle.sweep.proofs.Steps.{bodies-kept, bodies-written}
 use borrow.Author.Needs.{needs}
 use Rattle.sweep.proofs.write_bodies.Statement.{statement}
 use Rattle.sweep.proofs.write_bodies.Tie as tie
-use Rattle.sweep.proofs.write_bodies.Reads as reads
-use Rattle.sweep.proofs.write_bodies.Lts as lts
-use Rattle.tables.proofs.put_velocity.Reads as put-velocity-reads
 
 enum-told : tie.Need-enum-told
 enum-told c = search needs
 
--- src/lib.rt:47:23
 enum-known-outcome : tie.Need-enum-known-outcome
 enum-known-outcome c = search needs
 
--- src/lib.rt:51:13
 put-velocity-requires : tie.Need-put-velocity-requires
 put-velocity-requires c κs = search needs
 
--- src/lib.rt:52:13
 put-velocity-requires-2 : tie.Need-put-velocity-requires-2
 put-velocity-requires-2 c κs = search needs
 
--- src/lib.rt:42:1
 returns : tie.Need-returns
 returns c = bodies-kept _ _ _ _ ((c .enum-told .given .1))
 
--- src/lib.rt:42:1
 same-length : tie.Need-same-length
 same-length c = search needs
 
--- src/lib.rt:42:1
 returns-2 : tie.Need-returns-2
 returns-2 c = bodies-written _ _ _ _ ((c .before .before .before .before .before .before .before .before .before .before .before .before .outcome .given .1)) (c .before .before .before .before .before .before .put-velocity .ensures) (c .before .before .put-velocity2 .ensures)
 

@@ -1,35 +1,27 @@
+-- `sweep::write_floats` meets its contract. By the outcome's case. Assumes nothing.
 use Rattle.sweep.proofs.Steps.{floats-kept, floats-written}
 use borrow.Author.Needs.{needs}
 use Rattle.sweep.proofs.write_floats.Statement.{statement}
 use Rattle.sweep.proofs.write_floats.Tie as tie
-use Rattle.sweep.proofs.write_floats.Reads as reads
-use Rattle.sweep.proofs.write_floats.Lts as lts
-use Rattle.tables.proofs.put_impulses.Reads as put-impulses-reads
 
 enum-told : tie.Need-enum-told
 enum-told c = search needs
 
--- src/lib.rt:62:23
 enum-known-outcome : tie.Need-enum-known-outcome
 enum-known-outcome c = search needs
 
--- src/lib.rt:64:34
 cast-put-impulses : tie.Need-cast-put-impulses
 cast-put-impulses c = search needs
 
--- src/lib.rt:64:13
 put-impulses-requires : tie.Need-put-impulses-requires
 put-impulses-requires c κs = search needs
 
--- src/lib.rt:57:1
 returns : tie.Need-returns
 returns c = floats-kept _ _ _ _ ((c .enum-told .given .1))
 
--- src/lib.rt:57:1
 same-length : tie.Need-same-length
 same-length c = search needs
 
--- src/lib.rt:57:1
 returns-2 : tie.Need-returns-2
 returns-2 c = floats-written _ _ _ _ ((c .before .before .before .before .before .before .before .outcome .given .1)) (c .before .before .put-impulses .ensures)
 

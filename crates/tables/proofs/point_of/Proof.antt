@@ -1,45 +1,33 @@
+-- `tables::point_of` meets its contract. Part by part. Assumes nothing.
 use Rattle.tables.proofs.Contacts.{point-read}
 use borrow.Author.Needs.{needs}
 use Rattle.tables.proofs.point_of.Statement.{statement}
 use Rattle.tables.proofs.point_of.Tie as tie
-use Rattle.tables.proofs.point_of.Reads as reads
-use Rattle.tables.proofs.point_of.Lts as lts
-use Rattle.tables.proofs.normal_of.Reads as normal-of-reads
-use Rattle.tables.proofs.tangent_of.Reads as tangent-of-reads
 
--- src/lib.rt:113:33
 sub-normal-of : tie.Need-sub-normal-of
 sub-normal-of c = search needs
 
--- src/lib.rt:113:33
 part-normal-of-start : tie.Need-part-normal-of-start
 part-normal-of-start c = search needs
 
--- src/lib.rt:113:33
 part-normal-of-end : tie.Need-part-normal-of-end
 part-normal-of-end c = search needs
 
--- src/lib.rt:113:9
 normal-of-requires : tie.Need-normal-of-requires
 normal-of-requires c κs = search needs
 
--- src/lib.rt:114:35
 sub-tangent-of : tie.Need-sub-tangent-of
 sub-tangent-of c = search needs
 
--- src/lib.rt:114:35
 part-tangent-of-start : tie.Need-part-tangent-of-start
 part-tangent-of-start c = search needs
 
--- src/lib.rt:114:35
 part-tangent-of-end : tie.Need-part-tangent-of-end
 part-tangent-of-end c = search needs
 
--- src/lib.rt:114:9
 tangent-of-requires : tie.Need-tangent-of-requires
 tangent-of-requires c κs = search needs
 
--- src/lib.rt:109:1
 returns : tie.Need-returns
 returns c = search point-read
 

@@ -1,47 +1,36 @@
+-- `tables::step_at` meets its contract. A row, no row. Assumes nothing.
 use Rattle.rows.proofs.Lent.{read-there, read-past}
-use Rattle.tables.specs.Read.{stepAs, stepAt, stepOf}
+use Rattle.tables.specs.Tables.{stepAs, stepAt, stepOf}
 use mathlib.Core.Path.{refl}
 use borrow.Author.Needs.{needs}
 use Rattle.tables.proofs.step_at.Statement.{statement}
 use Rattle.tables.proofs.step_at.Tie as tie
-use Rattle.tables.proofs.step_at.Reads as reads
-use Rattle.tables.proofs.step_at.Lts as lts
-use Rattle.tables.proofs.step_of.Reads as step-of-reads
 
--- src/lib.rt:162:17
 mul-j : tie.Need-mul-j
 mul-j c = search needs
 
--- src/lib.rt:163:34
 add-step-of : tie.Need-add-step-of
 add-step-of c = search needs
 
--- src/lib.rt:163:24
 mul-step-of : tie.Need-mul-step-of
 mul-step-of c = search needs
 
--- src/lib.rt:163:24
 sub-step-of : tie.Need-sub-step-of
 sub-step-of c = search needs
 
--- src/lib.rt:163:24
 part-step-of-start : tie.Need-part-step-of-start
 part-step-of-start c = search needs
 
--- src/lib.rt:163:24
 part-step-of-end : tie.Need-part-step-of-end
 part-step-of-end c = search needs
 
--- src/lib.rt:163:9
 step-of-requires : tie.Need-step-of-requires
 step-of-requires c κs = search needs
 
--- src/lib.rt:163:9
 returns : tie.Need-returns
 unfolding stepAt
 returns c = read-there 2 _ _ stepOf (stepAs 0 0) (c .before .before .if1 .taken) (c .step-of .ensures)
 
--- src/lib.rt:158:1
 returns-2 : tie.Need-returns-2
 unfolding stepAt
 returns-2 c = read-past 2 _ _ stepOf (stepAs 0 0) (c .if1 .left) refl

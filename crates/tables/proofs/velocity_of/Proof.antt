@@ -1,24 +1,19 @@
-use Rattle.tables.specs.Read.{velOf}
+-- `tables::velocity_of` meets its contract. Cell by cell. Assumes nothing.
+use Rattle.tables.specs.Tables.{velOf}
 use mathlib.Core.Path.{refl}
 use borrow.Author.Needs.{needs}
 use Rattle.tables.proofs.velocity_of.Statement.{statement}
 use Rattle.tables.proofs.velocity_of.Tie as tie
-use Rattle.tables.proofs.velocity_of.Reads as reads
-use Rattle.tables.proofs.velocity_of.Lts as lts
 
--- src/lib.rt:37:27
 shared-slice-read-t3 : tie.Need-shared-slice-read-t3
 shared-slice-read-t3 c = search needs
 
--- src/lib.rt:37:36
 shared-slice-read-t5 : tie.Need-shared-slice-read-t5
 shared-slice-read-t5 c = search needs
 
--- src/lib.rt:38:18
 shared-slice-read-t8 : tie.Need-shared-slice-read-t8
 shared-slice-read-t8 c = search needs
 
--- src/lib.rt:32:1
 returns : tie.Need-returns
 unfolding velOf
 returns c = refl
