@@ -113,6 +113,19 @@ fn spoil_each(kind: u16) {
     spoil(b"1, the floor second ", 1.0, 0, FLOOR, 2, kind);
 }
 
+// Which numbers name one of two bodies, on the floor: nothing is spoiled, since no float has place 51.
+fn body_numbers() {
+    io::write_all(STDOUT_FILENO, b"body 0, 1, 2, 3, 6, 65534, 65535  ");
+    put_digit(wide(spoiled(51, 0.0, 0, FLOOR, 1, 1)));
+    put_digit(wide(spoiled(51, 0.0, 1, FLOOR, 1, 1)));
+    put_digit(wide(spoiled(51, 0.0, 2, FLOOR, 1, 1)));
+    put_digit(wide(spoiled(51, 0.0, 3, FLOOR, 1, 1)));
+    put_digit(wide(spoiled(51, 0.0, 6, FLOOR, 1, 1)));
+    put_digit(wide(spoiled(51, 0.0, 65534, FLOOR, 1, 1)));
+    put_digit(wide(spoiled(51, 0.0, FLOOR, FLOOR, 1, 1)));
+    io::write_all(STDOUT_FILENO, b"\n");
+}
+
 fn all_kinds() {
     let mut kind = 0;
     while kind < 5 {
@@ -234,8 +247,8 @@ fn put_room(room: &[u16]) {
     io::write_all(STDOUT_FILENO, b"\n");
 }
 
-// Bodies 0 and 1 fall on the floor, body 1 with three points, which 6 refuses; the list goes on. The
-// budget is three of four steps, and there is room for five.
+// Bodies 0 and 1 fall on the floor, body 0 sliding and turning, body 1 with three points, which 6
+// refuses; the list goes on. The budget is three of four steps, and there is room for five.
 fn night() {
     let fall = -2.0;
     let mut bodies_before = [0.0; 12];
@@ -245,9 +258,13 @@ fn night() {
     let numbers = [0, FLOOR, 1, 1, FLOOR, 3, 0, 0, 0];
     let steps = [0, 1, 1, 1, 0, 2, 0, 1];
     let mut room = [9; 10];
+    bodies_before[0] = 3.0;
     bodies_before[1] = fall;
+    bodies_before[2] = 5.0;
     bodies_before[4] = fall;
+    bodies[0] = 3.0;
     bodies[1] = fall;
+    bodies[2] = 5.0;
     bodies[4] = fall;
     push_up(&mut floats);
     push_up(&mut floats_before);
@@ -400,6 +417,8 @@ fn stretches() {
     lend(b"4 numbers for the bodies' 3", with_tables(7, 3, 45), 2);
     lend(b"4 numbers for a contact's 3", with_tables(6, 4, 45), 2);
     lend(b"46 floats for a contact's 45", with_tables(6, 3, 46), 2);
+    lend(b"54 floats for a contact's 45", with_tables(6, 3, 54), 2);
+    lend(b"60 floats for a contact's 45", with_tables(6, 3, 60), 2);
     lend(b"more numbers than floats", with_tables(6, 6, 45), 2);
     lend(b"more floats than numbers", with_tables(6, 3, 90), 2);
     lend(b"two contacts", with_tables(6, 6, 90), 2);
@@ -487,5 +506,6 @@ fn main() {
     listed();
     largest();
     cells();
+    body_numbers();
     all_kinds();
 }
