@@ -14,6 +14,9 @@ pub record Lent : Type 0 where
   pub steps : List ℕ
   pub room : List ℕ
 
+abbrev pub lend : Tables → List ℕ → List ℕ → Lent
+lend t steps room = record { tables = t; steps = steps; room = room }
+
 -- what a call leaves: its refusal, or 0; how many steps were done, and how many of them refused; all bodies, all contacts, all the room
 pub record Ended : Type 0 where
   pub refusal : ℕ
@@ -22,9 +25,12 @@ pub record Ended : Type 0 where
   pub tables : Tables
   pub room : List ℕ
 
+abbrev pub end : ℕ → ℕ → ℕ → Tables → List ℕ → Ended
+end refusal done refused t room = record { refusal = refusal; done = done; refused = refused; tables = t; room = room }
+
 -- "whole call; nothing written", and it "reports no steps done"
 unfoldable pub nothingDone : ℕ → Lent → Ended
-nothingDone number lent = record { refusal = number; done = 0; refused = 0; tables = lent .tables; room = lent .room }
+nothingDone number lent = end number 0 0 (lent .tables) (lent .room)
 
 -- "steps done is the smaller of budget and list length"
 abbrev pub stepsDone : Lent → ℕ → ℕ
@@ -32,7 +38,7 @@ stepsDone lent budget = min budget (rows 2 (lent .steps))
 
 -- "otherwise steps done and the number of them refused"
 unfoldable pub allDone : ℕ → Swept → Ended
-allDone done w = record { refusal = 0; done = done; refused = w .refused; tables = w .tables; room = w .room }
+allDone done w = end 0 done (w .refused) (w .tables) (w .room)
 
 -- checks 1 to 4 over all that is lent, before any step; then the steps, one by one
 unfoldable pub oneByOne : Lent → ℕ → Ended

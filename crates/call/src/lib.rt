@@ -5,6 +5,7 @@ use sweep::sweep;
 ghost use mathlib.Core.Path.{_≡_};
 ghost use Prim.Native.Nat.{min};
 ghost use Rattle.sweep.specs.Sweep.{tables};
+ghost use Rattle.call.specs.Call.{end, lend};
 ghost use Rattle.call.specs.Demands.{Demand2};
 
 // The number that refuses the whole call, or 0; how many steps were done, and how many of those were
@@ -31,7 +32,7 @@ pub fn call(
     room: &mut [u16],
     budget: usize,
 ) -> Report
-    ensures { λ r. ⌜ Demand2 (record { tables = tables (now (bodies .entry)) (now (numbers .entry)) (now (floats .entry)); steps = now (steps .entry); room = now (room .entry) }) budget (record { refusal = r .refusal; done = r .done; refused = r .refused; tables = tables (now (bodies .exit)) (now (numbers .entry)) (now (floats .exit)); room = now (room .exit) }) ⌝ }
+    ensures { λ r. ⌜ Demand2 (lend (tables (now (bodies .entry)) (now (numbers .entry)) (now (floats .entry))) (now (steps .entry)) (now (room .entry))) budget (end (r .refusal) (r .done) (r .refused) (tables (now (bodies .exit)) (now (numbers .entry)) (now (floats .exit))) (now (room .exit))) ⌝ }
 {
     let refusal = whole_call(bodies, numbers, floats, steps, room);
     if refusal != 0 {

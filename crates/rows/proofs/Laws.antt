@@ -75,9 +75,10 @@ rows-commute A n k f l keeps-f m g keeps-g ne = sides (decLt k (rows n l)) (decL
     still-g : rows n (onRow n m g l) ≡ rows n l
     still-g = ap (λ (i : ℕ). i / n) (as-long A n m g l keeps-g)
 
-    there : (l′ : List A) → l′ ≡ l → k < rows n l′ → m < rows n l′ → onPart (k * n) n f (onPart (m * n) n g l′) ≡ onPart (m * n) n g (onPart (k * n) n f l′)
-    there [] e h i = absurd (none-in-empty n k h)
-    there (d ∷ ds) e h i =
+    there : (l′ : List A) → k < rows n l′ → m < rows n l′
+        → onPart (k * n) n f (onPart (m * n) n g l′) ≡ onPart (m * n) n g (onPart (k * n) n f l′)
+    there [] h i = absurd (none-in-empty n k h)
+    there (d ∷ ds) h i =
         parts-commute d (k * n) n (m * n) n f g (d ∷ ds) (rows-apart n m k (λ q. ne (sym q))) (row-fits n k f (d ∷ ds) h) (row-fits n m g (d ∷ ds) i)
         (keeps-part n k f (d ∷ ds) keeps-f h) (keeps-part n m g (d ∷ ds) keeps-g i)
 
@@ -85,7 +86,7 @@ rows-commute A n k f l keeps-f m g keeps-g ne = sides (decLt k (rows n l)) (decL
     sides (yes h) (yes i) =
         on-row-there n k f (onRow n m g l) (rw still-g h)
         ∙ ap (onPart (k * n) n f) (on-row-there n m g l i)
-        ∙ there l refl h i
+        ∙ there l h i
         ∙ sym (on-row-there n m g (onRow n k f l) (rw still-f i) ∙ ap (onPart (m * n) n g) (on-row-there n k f l h))
     sides (yes h) (no i) =
         ap (onRow n k f) (on-row-past n m g l (omega (arith, i))) ∙ sym (on-row-past n m g (onRow n k f l) (omega (arith, i, still-f)))
