@@ -2,7 +2,7 @@
 use Prim.Native.Nat.{ℕ, suc, _≤_, _<_}
 use native.Mathlib.Omega.{arith}
 use mathlib.Core.Bool.{Bool, true, false, not}
-use mathlib.Core.List.{List}
+use mathlib.Core.List.{List, _∷_}
 use mathlib.Core.Logic.{_≢_}
 use mathlib.Core.Path.{_≡_, refl, sym, _∙_, ap}
 use lib.Dec.{eqb, lit<, ltb}
@@ -12,7 +12,8 @@ use Rattle.leaves.proofs.Pick.{take, pass}
 use Rattle.contact.specs.declared.Contact.{Contact}
 use Rattle.step.specs.Step.{answer, asRead, conditions, step}
 use Rattle.promises.proofs.Promises.{answers-first, rising}
-use Rattle.refusals.specs.Refusals.{Condition, Exactly, first}
+use Rattle.refusals.specs.Refusals.{Condition, Exactly, _when_, first}
+use Rattle.refusals.proofs.Chain.{hit, miss}
 use Rattle.refusals.proofs.Exact.{exactly}
 use Rattle.rows.specs.Rows.{row, rows}
 use Rattle.cells.specs.Cells.{answerOf}
@@ -32,7 +33,7 @@ use Rattle.call.specs.Demands.{Demand1, Demand2, before, numberOf, ofSte
 -- a step's number is the first of its conditions
 module _ (s : Step) (t : Tables) where
   number-first : stepOn s t .answer .number ≡ first (ofStep s t)
-  unfolding ofStep first
+  unfolding ofStep
   number-first = number-of s t ∙ by-case (ltb (s .contact) (rows 45 (t .floats)))
     where
       c : Contact
@@ -41,10 +42,9 @@ module _ (s : Step) (t : Tables) where
       rest : List Condition
       rest = conditions c (s .kind) (asRead (c .head) (velsAt (t .bodies) (c .head))) (rows 3 (t .bodies))
 
-      by-case : (b : Bool) → (if b then answer (step c (s .kind) (velsAt (t .bodies) (c .head)) (rows 3 (t .bodies))) else 2)
-          ≡ (if not b then 2 else first rest)
-      by-case true = answers-first c (s .kind) (velsAt (t .bodies) (c .head)) (rows 3 (t .bodies))
-      by-case false = refl
+      by-case : (b : Bool) → (if b then answer (step c (s .kind) (velsAt (t .bodies) (c .head)) (rows 3 (t .bodies))) else 2) ≡ first (2 when not b ∷ rest)
+      by-case true = miss 2 rest refl refl (answers-first c (s .kind) (velsAt (t .bodies) (c .head)) (rows 3 (t .bodies)))
+      by-case false = hit 2 rest refl refl
 
   exact-step : Exactly (stepOn s t .answer .number) (ofStep s t)
   unfolding ofStep

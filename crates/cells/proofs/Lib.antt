@@ -1,3 +1,5 @@
+pub mod Again
+pub mod Back
 pub mod Kept
 pub mod Points
 pub mod Rows

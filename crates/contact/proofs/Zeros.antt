@@ -1,5 +1,5 @@
--- An empty point and an empty contact, from what the zeros of their parts ensure. Assumes nothing.
-use mathlib.Core.Path.{_≡_}
+-- An empty point and an empty contact, from what the zeros of their parts ensure; it has no points. Assumes nothing.
+use mathlib.Core.Path.{_≡_, refl}
 use Rattle.tangent.specs.Tangent.{tangentZero}
 use Rattle.tangent.specs.declared.ContactConstraintTangentPart.{ContactConstraintTangentPart}
 use Rattle.normal.specs.Normal.{normalZero}
@@ -22,3 +22,8 @@ zero-point p q = cc
 pub zero-contact : {h : ContactHead} {a b : ContactPoint} → h ≡ headZero → a ≡ pointZero → b ≡ pointZero → contact-of h a b ≡ contactZero
 unfolding contactZero
 zero-contact p q s = cc
+
+-- an empty contact has no points
+pub zero-count : contactZero .head .count ≡ 0
+unfolding contactZero headZero
+zero-count = refl

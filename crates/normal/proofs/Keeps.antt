@@ -8,6 +8,22 @@ use Rattle.normal.specs.Normal.{normal, normalMoved, normalWith, restitu
 use Rattle.normal.specs.Pair.{pair, pairMoved}
 use Rattle.normal.specs.declared.ContactConstraintNormalPart.{ContactConstraintNormalPart}
 
+-- a part with another impulse, number by number
+pub normal-with : (p : ContactConstraintNormalPart) (x : Float) → normalWith p x ≡ record {
+  «torque_dir1» = p .«torque_dir1»;
+  «torque_dir2» = p .«torque_dir2»;
+  «ii_torque_dir1» = p .«ii_torque_dir1»;
+  «ii_torque_dir2» = p .«ii_torque_dir2»;
+  rhs = p .rhs;
+  impulse = x;
+  «impulse_accumulator» = p .«impulse_accumulator»;
+  r = p .r;
+  «cfm_factor» = p .«cfm_factor»;
+  seed = p .seed;
+}
+unfolding normalWith
+normal-with p x = refl
+
 module _ (p : ContactConstraintNormalPart) (dir im1 im2 : Vec2) (v : Vels) where
   pub normal-keeps : normal p dir im1 im2 v .part ≡ normalWith p (normal p dir im1 im2 v .part .impulse)
   unfolding normal normalMoved normalWith

@@ -1,4 +1,4 @@
--- One step more at a list's end: what it does to the state, the answers and the counts. Assumes nothing.
+-- No step, and one step more at a list's end: what it does to the state, the answers and the counts. Assumes nothing.
 use Prim.Native.Nat.{ℕ, suc, _+_, _≤_}
 use native.Mathlib.Omega.{arith}
 use native.Mathlib.Nat.{add-assoc}
@@ -10,6 +10,15 @@ use Rattle.leaves.specs.Floats.{if_then_else_}
 use Rattle.order.specs.OneByOne.{Stepped, answers, any, count, finish}
 
 module _ {S St A : Type 0} (step : S → St → Stepped A St) where
+  -- no step: the state stays, and nothing is answered
+  pub finish-none : (st : St) → finish step [] st ≡ st
+  unfolding finish
+  finish-none st = refl
+
+  pub answers-none : (st : St) → answers step [] st ≡ []
+  unfolding answers
+  answers-none st = refl
+
   pub finish-snoc : (ss : List S) (s : S) (st : St) → finish step (ss ++ (s ∷ [])) st ≡ step s (finish step ss st) .after
   unfolding finish
   finish-snoc [] s st = refl
@@ -27,6 +36,10 @@ module _ {S St A : Type 0} (step : S → St → Stepped A St) where
   length-answers (x ∷ ss) st = ap suc (length-answers ss (step x st .after))
 
 module _ {A : Type 0} (test : A → Bool) where
+  pub count-none : count test [] ≡ 0
+  unfolding count
+  count-none = refl
+
   pub count-snoc : (l : List A) (a : A) → count test (l ++ (a ∷ [])) ≡ count test l + (if test a then 1 else 0)
   unfolding count
   count-snoc [] a = omega arith

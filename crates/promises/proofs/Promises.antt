@@ -18,10 +18,11 @@ use Rattle.contact.specs.declared.ContactHead.{ContactHead}
 use Rattle.kinds.specs.declared.ContactSolved.{ContactSolved}
 use Rattle.shape.proofs.Points.{two-points}
 use Rattle.values.proofs.Passed.{impulses-finite, velocity1-finite, velocity2-finite}
-use Rattle.shape.specs.Shape.{pairOfOne, wrongCount}
+use Rattle.shape.specs.Shape.{pairOfOne, wrongBodies, wrongCount}
 use Rattle.values.specs.Values.{finiteVel, notFinite, unwritable}
 use Rattle.refusals.specs.Refusals.{Condition, first}
-use Rattle.refusals.proofs.Exact.{None, Rising, exactly}
+use Rattle.refusals.proofs.Chain.{none}
+use Rattle.refusals.proofs.Exact.{None, Rising, exactly, left, taken}
 use Rattle.promises.specs.Promises.{BranchOfPairs, ExactAnswers, FiniteDone, FloorKept, SameHead, Untouched}
 use Rattle.step.specs.Step.{answer, asRead, asWritten, branch, conditions, firstOr, step, tried, writes, writtenVels}
 use Rattle.step.specs.declared.Outcome.{Outcome}
@@ -40,13 +41,13 @@ same-branch h v (Done s) = refl
 
 -- a refused outcome's number is the first of its conditions, and a done one's is 0
 first-answered : (cs : List Condition) (made : ContactSolved) → answer (firstOr cs made) ≡ first cs
-unfolding firstOr first
-first-answered [] made = refl
-first-answered (c ∷ cs) made = by-case (c .holds) (first-answered cs made)
+unfolding firstOr
+first-answered [] made = none
+first-answered (c ∷ cs) made = by-case (c .holds) refl (first-answered cs made)
   where
-    by-case : (b : Bool) → answer (firstOr cs made) ≡ first cs → answer (cond b (Refused (c .number)) (firstOr cs made)) ≡ cond b (c .number) (first cs)
-    by-case true rest = refl
-    by-case false rest = rest
+    by-case : (b : Bool) → c .holds ≡ b → answer (firstOr cs made) ≡ first cs → answer (cond b (Refused (c .number)) (firstOr cs made)) ≡ first (c ∷ cs)
+    by-case true h rest = sym (taken c cs h)
+    by-case false h rest = rest ∙ sym (left c cs h)
 
 module _ (c : Contact) (kind : ℕ) (v : Vels) (rows : ℕ) where
   -- the numbers of the conditions rise from 3
@@ -109,6 +110,14 @@ known c kind v rows s e =
       contact = w .3 ∙ ap (λ (x : ContactSolved). x .contact) (sym (p .1));
       vels = w .4 ∙ ap (λ (x : ContactSolved). writtenVels (c .head) v (x .vels)) (sym (p .1));
     }
+
+-- its bodies passed 5
+pub bodies-passed : (c : Contact) (kind : ℕ) (v : Vels) (rows : ℕ) (s : ContactSolved) → step c kind v rows ≡ Done s → wrongBodies (c .head) rows ≡ false
+unfolding step tried conditions
+bodies-passed c kind v rows s e =
+    let seen = asRead (c .head) v in
+    let w = written-as (c .head) v (tried c kind seen rows) s e in
+    passed-all (conditions c kind seen rows) (routine kind c seen) (w .0) (w .1) .0 .1 .0
 
 pub untouched : Untouched
 untouched c kind v rows s e =

@@ -32,11 +32,12 @@ module _ (c : Condition) (cs : List Condition) where
       drop true = refl
       drop false = refl
 
-  taken : c .holds ≡ true → first (c ∷ cs) ≡ c .number
+  -- the first of a list is given where it holds, else the first of the rest
+  pub taken : c .holds ≡ true → first (c ∷ cs) ≡ c .number
   unfolding first
   taken h = rw h
 
-  left : c .holds ≡ false → first (c ∷ cs) ≡ first cs
+  pub left : c .holds ≡ false → first (c ∷ cs) ≡ first cs
   unfolding first
   left h = rw h
 

@@ -16,7 +16,7 @@ use Rattle.cells.specs.Cells.{putAnswer}
 use Rattle.cells.specs.declared.Answer.{Answer}
 use Rattle.tables.specs.declared.Step.{Step}
 use Rattle.order.specs.OneByOne.{answers, count, finish}
-use Rattle.order.proofs.Snoc.{answers-snoc, count-le, count-snoc, finish-snoc, length-answers}
+use Rattle.order.proofs.Snoc.{answers-none, answers-snoc, count-le, count-none, count-snoc, finish-none, finish-snoc, length-answers}
 use Rattle.sweep.specs.Turn.{Turned}
 use Rattle.sweep.specs.Sweep.{Swept, Tables, firstSteps, isRefused, laid, stepOn, sweep, swept, tables}
 
@@ -95,8 +95,8 @@ turned steps i t room es ea er = record { done = rw (← es) ea; told = er }
 
 module _ (steps : List ℕ) (n : ℕ) (b₀ : List Float) (numbers : List ℕ) (f₀ : List Float) (room₀ : List ℕ) where
   pub start-going : Going steps n b₀ numbers f₀ room₀ b₀ f₀ room₀ 0 0
-  unfolding sweep firstSteps finish answers laid count
-  start-going = record { so-far = refl; within = omega arith; bodies-long = refl; floats-long = refl; room-long = refl }
+  unfolding sweep firstSteps laid
+  start-going = record { so-far = rw (finish-none stepOn (tables b₀ numbers f₀), answers-none stepOn (tables b₀ numbers f₀), count-none isRefused); within = omega arith; bodies-long = refl; floats-long = refl; room-long = refl }
 
   module _ (b f : List Float) (room : List ℕ) (i refused : ℕ) (going : Going steps n b₀ numbers f₀ room₀ b f room i refused) where
     -- one step more

@@ -1,3 +1,4 @@
 pub mod Steps
 pub mod Going
 pub mod Room
+pub mod Done

@@ -11,7 +11,8 @@ use Rattle.tables.specs.Tables.{stepAt}
 use Rattle.cells.specs.Cells.{answerRow, putAnswer}
 use Rattle.cells.specs.declared.Answer.{Answer}
 use Rattle.cells.proofs.Kept.{answer-elsewhere, answer-there, room-as-long}
-use Rattle.order.specs.OneByOne.{answers, finish}
+use Rattle.order.specs.OneByOne.{finish}
+use Rattle.order.proofs.Snoc.{answers-none}
 use Rattle.sweep.specs.Sweep.{Swept, Tables, firstSteps, laid, stepOn, sweep}
 use Rattle.sweep.proofs.Going.{sweep-suc}
 
@@ -32,8 +33,8 @@ module _ (steps : List ℕ) (t : Tables) (room : List ℕ) where
   tables-are n = refl
 
   room-none : roomAfter 0 ≡ room
-  unfolding sweep firstSteps answers laid
-  room-none = refl
+  unfolding sweep firstSteps laid
+  room-none = rw (answers-none stepOn t)
 
   room-suc : (n : ℕ) → roomAfter (suc n) ≡ putAnswer (roomAfter n) n (nextAnswer n)
   room-suc n = ap (λ (w : Swept). w .room) (sweep-suc steps t room n)

@@ -1,0 +1,112 @@
+-- What a point, a contact and a body read as, by their floats: for reading them again after they were written. Assumes nothing.
+use Prim.Native.Nat.{ℕ, _/_, _<_}
+use native.Mathlib.Omega.{arith}
+use mathlib.Core.Bool.{true, false}
+use mathlib.Core.List.{List, [], _∷_}
+use mathlib.Core.Path.{_≡_, refl, sym, _∙_, ap}
+use lib.Dec.{lit<, lit≤}
+use lib.Ieee.{Float}
+use lib.ListN.{length, set}
+use Rattle.leaves.specs.Leaves.{vec}
+use Rattle.velocity.specs.Velocity.{rest}
+use Rattle.tangent.specs.Tangent.{tangentWith}
+use Rattle.tangent.proofs.Keeps.{tangent-with}
+use Rattle.tangent.specs.declared.ContactConstraintTangentPart.{ContactConstraintTangentPart}
+use Rattle.normal.specs.Normal.{normalWith}
+use Rattle.normal.proofs.Keeps.{normal-with}
+use Rattle.normal.specs.declared.ContactConstraintNormalPart.{ContactConstraintNormalPart}
+use Rattle.contact.specs.Contact.{contactZero, isFloor}
+use Rattle.contact.specs.declared.ContactPoint.{ContactPoint}
+use Rattle.rows.specs.Rows.{part, readRow, row, rows}
+use Rattle.rows.proofs.Again.{read-row, same-read, set-after, set-before, set-inside}
+use Rattle.rows.proofs.Parts.{length-part}
+use Rattle.tables.specs.Tables.{contactAt, contactOf, normalOf, pointOf, tangentOf, velAt, velOf}
+
+module _ (x : Float) where
+  -- a normal part's impulse stands at place 5 of its floats ..
+  normal-set : (l : List Float) → 5 < length l → normalOf (set l 5 x) ≡ normalWith (normalOf l) x
+  unfolding normalOf
+  normal-set [] h = absurd (omega arith)
+  normal-set (_ ∷ []) h = absurd (omega arith)
+  normal-set (_ ∷ _ ∷ []) h = absurd (omega arith)
+  normal-set (_ ∷ _ ∷ _ ∷ []) h = absurd (omega arith)
+  normal-set (_ ∷ _ ∷ _ ∷ _ ∷ []) h = absurd (omega arith)
+  normal-set (_ ∷ _ ∷ _ ∷ _ ∷ _ ∷ []) h = absurd (omega arith)
+  normal-set (_ ∷ _ ∷ _ ∷ _ ∷ _ ∷ _ ∷ l) h = sym (normal-with _ x)
+
+  -- .. and so does a tangent part's
+  tangent-set : (l : List Float) → 5 < length l → tangentOf (set l 5 x) ≡ tangentWith (tangentOf l) x
+  unfolding tangentOf
+  tangent-set [] h = absurd (omega arith)
+  tangent-set (_ ∷ []) h = absurd (omega arith)
+  tangent-set (_ ∷ _ ∷ []) h = absurd (omega arith)
+  tangent-set (_ ∷ _ ∷ _ ∷ []) h = absurd (omega arith)
+  tangent-set (_ ∷ _ ∷ _ ∷ _ ∷ []) h = absurd (omega arith)
+  tangent-set (_ ∷ _ ∷ _ ∷ _ ∷ _ ∷ []) h = absurd (omega arith)
+  tangent-set (_ ∷ _ ∷ _ ∷ _ ∷ _ ∷ _ ∷ l) h = sym (tangent-with _ x)
+
+-- a point of two parts
+abbrev point-of : ContactConstraintNormalPart → ContactConstraintTangentPart → ContactPoint
+point-of n t = record { «normal_part» = n; «tangent_part» = t }
+
+-- points of the same parts are the same
+same-parts : {n n′ : ContactConstraintNormalPart} {t t′ : ContactConstraintTangentPart}
+    → n ≡ n′ → t ≡ t′ → point-of n t ≡ point-of n′ t′
+same-parts p q = cc
+
+module _ (x : Float) (l : List Float) (long : length l ≡ 18) where
+  -- a point's normal impulse stands at place 5 of its floats
+  pub point-pressed : pointOf (set l 5 x) ≡ point-of (normalWith (pointOf l .«normal_part») x) (pointOf l .«tangent_part»)
+  unfolding pointOf
+  point-pressed =
+      let fits : 5 < length (part 0 10 l) = omega (arith, length-part 0 10 l (omega arith)) in
+      same-parts (ap normalOf (set-inside 0 10 5 l x (lit< tt)) ∙ normal-set x (part 0 10 l) fits) (ap tangentOf (set-before 10 8 5 l x (lit< tt)))
+
+  -- its tangent impulse at place 15
+  pub point-rubbed : pointOf (set l 15 x) ≡ point-of (pointOf l .«normal_part») (tangentWith (pointOf l .«tangent_part») x)
+  unfolding pointOf
+  point-rubbed =
+      let fits : 5 < length (part 10 8 l) = omega (arith, length-part 10 8 l (omega arith)) in
+      same-parts (ap normalOf (set-after 0 10 15 l x (lit≤ tt))) (ap tangentOf (set-inside 10 8 5 l x (lit< tt)) ∙ tangent-set x (part 10 8 l) fits)
+
+-- a contact whose head's floats are those of another has its head
+pub contact-with : (numbers : List ℕ) (l m : List Float) {a b : ContactPoint} → part 0 9 m ≡ part 0 9 l → pointOf (part 9 18 m) ≡ a
+    → pointOf (part 27 18 m) ≡ b → contactOf numbers m ≡ record { head = contactOf numbers l .head; a = a; b = b }
+unfolding contactOf
+contact-with numbers l m e p q = rw (e, p, q)
+
+-- a contact's points are those of its floats
+pub its-points : (numbers : List ℕ) (l : List Float)
+    → (contactOf numbers l .a ≡ pointOf (part 9 18 l)) × (contactOf numbers l .b ≡ pointOf (part 27 18 l))
+unfolding contactOf
+its-points numbers l = (refl, refl)
+
+-- contact k where both its rows are there
+pub contact-there : (numbers : List ℕ) (floats : List Float) (k : ℕ) → k < rows 3 numbers → k < rows 45 floats
+    → contactAt numbers floats k ≡ contactOf (row 3 k numbers) (row 45 k floats)
+unfolding contactAt
+contact-there numbers floats k h i =
+    read-row 3 k (λ ids. readRow 45 k (contactOf ids) contactZero floats) contactZero numbers h
+    ∙ read-row 45 k (contactOf (row 3 k numbers)) contactZero floats i
+
+-- a body's three floats
+pub vel-of : (x y w : Float) → velOf (x ∷ y ∷ w ∷ []) ≡ record { linear = vec x y; angular = w }
+unfolding velOf
+vel-of x y w = refl
+
+module _ (bodies : List Float) (body : ℕ) where
+  -- the floor reads as rest
+  pub floor-rests : isFloor body ≡ true → velAt bodies body ≡ rest
+  unfolding velAt
+  floor-rests floor = rw floor
+
+  -- a real body reads as its row says
+  pub vel-there : isFloor body ≡ false → body < rows 3 bodies → velAt bodies body ≡ velOf (row 3 body bodies)
+  unfolding velAt
+  vel-there real h = rw real (read-row 3 body velOf rest bodies h)
+
+  -- a body's velocity hangs on its row and on how long the table is, and on nothing else
+  pub same-vel : (others : List Float)
+      → length others ≡ length bodies → row 3 body others ≡ row 3 body bodies → velAt others body ≡ velAt bodies body
+  unfolding velAt
+  same-vel others long same = rw (same-read 3 body velOf rest bodies others (ap (λ (n : ℕ). n / 3) long) same)
