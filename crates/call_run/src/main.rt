@@ -236,6 +236,13 @@ fn wide(x: u16) -> usize {
     x as usize
 }
 
+fn say(right: bool, line: &[u8]) {
+    if !right {
+        io::write_all(STDOUT_FILENO, b"not so: ");
+    }
+    io::write_all(STDOUT_FILENO, line);
+}
+
 fn put_room(room: &[u16]) {
     io::write_all(STDOUT_FILENO, b"room");
     let mut i = 0;
@@ -271,6 +278,8 @@ fn night() {
     let r = call(&mut bodies, &numbers, &mut floats, &steps, &mut room, 3);
     put_report(b"a night", r);
     put_room(&room);
+    say(bodies[1] == 0.0, b"body 0 no longer falls\n");
+    say(floats[14] == 2.0, b"its load is 2\n");
     put_bodies(&bodies_before, &bodies);
     put_floats(&floats_before, &floats);
 }
