@@ -1,6 +1,5 @@
 -- `call_run::call_on_fronts` meets its contract. Each front lies in its stretch. Assumes nothing.
-use mathlib.Core.Path.{sym}
-use lib.Seq.{length-take-le}
+use Rattle.call_run.proofs.Fronts.{front-long}
 use borrow.Author.Needs.{needs}
 use Rattle.call_run.proofs.call_on_fronts.Statement.{statement}
 use Rattle.call_run.proofs.call_on_fronts.Tie as tie
@@ -24,25 +23,25 @@ slice-relend-prefix-call : tie.Need-slice-relend-prefix-call
 slice-relend-prefix-call c = search needs
 
 slice-aggregate-call : tie.Need-slice-aggregate-call
-slice-aggregate-call c = sym (length-take-le _ _ (c .before .before .before .before .before .if1 .left))
+slice-aggregate-call c = search front-long
 
 slice-aggregate-call-2 : tie.Need-slice-aggregate-call-2
-slice-aggregate-call-2 c = sym (length-take-le _ _ (c .before .before .before .before .before .if2 .left))
+slice-aggregate-call-2 c = search front-long
 
 slice-relend-prefix-call-2 : tie.Need-slice-relend-prefix-call-2
 slice-relend-prefix-call-2 c = search needs
 
 slice-aggregate-call-3 : tie.Need-slice-aggregate-call-3
-slice-aggregate-call-3 c = sym (length-take-le _ _ (c .before .before .before .before .before .if3 .left))
+slice-aggregate-call-3 c = search front-long
 
 slice-aggregate-call-4 : tie.Need-slice-aggregate-call-4
-slice-aggregate-call-4 c = sym (length-take-le _ _ (c .before .before .before .before .before .if4 .left))
+slice-aggregate-call-4 c = search front-long
 
 slice-relend-prefix-call-3 : tie.Need-slice-relend-prefix-call-3
 slice-relend-prefix-call-3 c = search needs
 
 slice-aggregate-call-5 : tie.Need-slice-aggregate-call-5
-slice-aggregate-call-5 c = sym (length-take-le _ _ (c .before .before .before .before .before .if5 .left))
+slice-aggregate-call-5 c = search front-long
 
 call-requires : tie.Need-call-requires
 call-requires c κs = search needs

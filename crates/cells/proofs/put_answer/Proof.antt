@@ -1,6 +1,5 @@
 -- `cells::put_answer` meets its contract. A row, no row. Assumes nothing.
-use Rattle.rows.proofs.Lent.{row-written, row-past}
-use Rattle.cells.specs.Cells.{answerRow, putAnswer}
+use Rattle.cells.proofs.Put.{answer-past, answer-put}
 use borrow.Author.Needs.{needs}
 use Rattle.cells.proofs.put_answer.Statement.{statement}
 use Rattle.cells.proofs.put_answer.Tie as tie
@@ -30,12 +29,10 @@ same-length : tie.Need-same-length
 same-length c = search needs
 
 returns : tie.Need-returns
-unfolding putAnswer
-returns c = row-written 2 _ _ (λ _. answerRow ((c .before .before .before .before .before .before .args .a))) (c .before .before .before .before .if1 .taken) (c .before .before .store-answer .ensures)
+returns c = search answer-put
 
 returns-2 : tie.Need-returns-2
-unfolding putAnswer
-returns-2 c = row-past 2 _ _ (λ _. answerRow ((c .before .before .args .a))) (c .if1 .left)
+returns-2 c = search answer-past
 
 pub put-answer-spec : {M : Type 1} → statement M
 put-answer-spec =

@@ -1,6 +1,5 @@
 -- `cells::put_impulses` meets its contract. A row, no row. Assumes nothing.
-use Rattle.rows.proofs.Lent.{row-written, row-past}
-use Rattle.cells.specs.Cells.{putContact, putImpulses}
+use Rattle.cells.proofs.Put.{impulses-past, impulses-put}
 use borrow.Author.Needs.{needs}
 use Rattle.cells.proofs.put_impulses.Statement.{statement}
 use Rattle.cells.proofs.put_impulses.Tie as tie
@@ -30,12 +29,10 @@ same-length : tie.Need-same-length
 same-length c = search needs
 
 returns : tie.Need-returns
-unfolding putImpulses
-returns c = row-written 45 _ _ (putContact ((c .before .before .before .before .before .before .args .kind)) ((c .before .before .before .before .before .before .args .c))) (c .before .before .before .before .if1 .taken) (c .before .before .store-contact .ensures)
+returns c = search impulses-put
 
 returns-2 : tie.Need-returns-2
-unfolding putImpulses
-returns-2 c = row-past 45 _ _ (putContact ((c .before .before .args .kind)) ((c .before .before .args .c))) (c .if1 .left)
+returns-2 c = search impulses-past
 
 pub put-impulses-spec : {M : Type 1} → statement M
 put-impulses-spec =

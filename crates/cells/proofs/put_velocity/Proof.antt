@@ -1,16 +1,11 @@
 -- `cells::put_velocity` meets its contract. The floor, a row, no row. Assumes nothing.
-use Rattle.rows.proofs.Lent.{row-written, row-past}
-use Rattle.cells.specs.Cells.{putVel, velRow}
-use Rattle.leaves.proofs.Pick.{take, pass}
-use mathlib.Core.Path.{refl}
-use borrow.Author.Tests.{eq-eqb, ne-eqb}
+use Rattle.cells.proofs.Put.{vel-of-floor, vel-past, vel-put}
 use borrow.Author.Needs.{needs}
 use Rattle.cells.proofs.put_velocity.Statement.{statement}
 use Rattle.cells.proofs.put_velocity.Tie as tie
 
 returns : tie.Need-returns
-unfolding putVel
-returns c = take _ (eq-eqb _ _ (c .if1 .taken)) refl
+returns c = search vel-of-floor
 
 mul-i : tie.Need-mul-i
 mul-i c = search needs
@@ -37,12 +32,10 @@ same-length : tie.Need-same-length
 same-length c = search needs
 
 returns-2 : tie.Need-returns-2
-unfolding putVel
-returns-2 c = pass _ (ne-eqb _ _ (c .before .before .before .before .before .if1 .left)) (row-written 3 _ _ (λ _. velRow ((c .before .before .before .before .before .before .before .args .v))) (c .before .before .before .before .if2 .taken) (c .before .before .store-velocity .ensures))
+returns-2 c = search vel-put
 
 returns-3 : tie.Need-returns-3
-unfolding putVel
-returns-3 c = pass _ (ne-eqb _ _ (c .before .if1 .left)) (row-past 3 _ _ (λ _. velRow ((c .before .before .before .args .v))) (c .if2 .left))
+returns-3 c = search vel-past
 
 pub put-velocity-spec : {M : Type 1} → statement M
 put-velocity-spec =

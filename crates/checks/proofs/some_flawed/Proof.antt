@@ -26,7 +26,7 @@ flawed-requires c κs = search needs
 
 returns : tie.Need-returns Inv-loop μ-loop
 unfolding someFlawed
-returns c = one-found _ _ _ _ (c .before .before .before .loop-test .taken) (c .before .before .step-at .ensures) (c .before .flawed .ensures) (c .if1 .taken)
+returns c = search one-found
 
 add-i : tie.Need-add-i Inv-loop μ-loop
 add-i c = omega arith
@@ -35,7 +35,7 @@ loop-less : tie.Need-loop-less Inv-loop μ-loop
 loop-less c = omega arith
 
 loop-again : tie.Need-loop-again Inv-loop μ-loop
-loop-again c = (omega arith, none-more _ _ _ ((c .before .before .before .before .loop .inv .1)) (c .before .before .step-at .ensures) (c .before .flawed .ensures) (c .if1 .left))
+loop-again c = (omega arith, search none-more)
 
 returns-2 : tie.Need-returns-2 Inv-loop μ-loop
 unfolding someFlawed

@@ -23,7 +23,7 @@ same-length : tie.Need-same-length
 same-length c = search needs
 
 returns-2 : tie.Need-returns-2
-returns-2 c = bodies-written _ _ _ _ ((c .before .before .before .before .before .before .before .before .before .before .before .before .outcome .given .1)) (c .before .before .before .before .before .before .put-velocity .ensures) (c .before .before .put-velocity2 .ensures)
+returns-2 c = search bodies-written
 
 pub write-bodies-spec : {M : Type 1} → statement M
 write-bodies-spec =

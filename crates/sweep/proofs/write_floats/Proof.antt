@@ -23,7 +23,7 @@ same-length : tie.Need-same-length
 same-length c = search needs
 
 returns-2 : tie.Need-returns-2
-returns-2 c = floats-written _ _ _ _ ((c .before .before .before .before .before .before .before .outcome .given .1)) (c .before .before .put-impulses .ensures)
+returns-2 c = search floats-written
 
 pub write-floats-spec : {M : Type 1} → statement M
 write-floats-spec =

@@ -1,9 +1,5 @@
 -- `tables::velocity_at` meets its contract. The floor, a row, no row. Assumes nothing.
-use Rattle.rows.proofs.Lent.{read-there, read-past}
-use Rattle.tables.specs.Tables.{velAt, velOf}
-use Rattle.leaves.proofs.Pick.{take, pass}
-use Rattle.velocity.specs.Velocity.{rest}
-use borrow.Author.Tests.{eq-eqb, ne-eqb}
+use Rattle.tables.proofs.Velocities.{of-floor, of-no-row, of-row}
 use borrow.Author.Needs.{needs}
 use Rattle.tables.proofs.velocity_at.Statement.{statement}
 use Rattle.tables.proofs.velocity_at.Tie as tie
@@ -12,8 +8,7 @@ zero-requires : tie.Need-zero-requires
 zero-requires c κs = search needs
 
 returns : tie.Need-returns
-unfolding velAt
-returns c = take _ (eq-eqb _ _ (c .before .if1 .taken)) (c .zero .ensures)
+returns c = search of-floor
 
 mul-i : tie.Need-mul-i
 mul-i c = search needs
@@ -37,15 +32,13 @@ velocity-of-requires : tie.Need-velocity-of-requires
 velocity-of-requires c κs = search needs
 
 returns-2 : tie.Need-returns-2
-unfolding velAt
-returns-2 c = pass _ (ne-eqb _ _ (c .before .before .before .if1 .left)) (read-there 3 _ _ velOf rest (c .before .before .if2 .taken) (c .velocity-of .ensures))
+returns-2 c = search of-row
 
 zero-requires-2 : tie.Need-zero-requires-2
 zero-requires-2 c κs = search needs
 
 returns-3 : tie.Need-returns-3
-unfolding velAt
-returns-3 c = pass _ (ne-eqb _ _ (c .before .before .if1 .left)) (read-past 3 _ _ velOf rest (c .before .if2 .left) (c .zero2 .ensures))
+returns-3 c = search of-no-row
 
 pub velocity-at-spec : {M : Type 1} → statement M
 velocity-at-spec =
