@@ -20,7 +20,7 @@ use Rattle.cells.specs.Cells.{answerOf}
 use Rattle.tables.specs.Tables.{stepAt}
 use Rattle.cells.specs.declared.Answer.{Answer}
 use Rattle.tables.specs.declared.Step.{Step}
-use Rattle.cells.proofs.Kept.{read-answer}
+use Rattle.cells.proofs.Answers.{read-answer}
 use Rattle.sweep.specs.Sweep.{Swept, Tables, itsContact, stepOn, sweep, velsAt}
 use Rattle.sweep.proofs.Steps.{number-of, refused-keeps}
 use Rattle.sweep.proofs.Room.{answer-row, room-past, tables-are, tables-suc}

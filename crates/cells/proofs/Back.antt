@@ -18,9 +18,9 @@ use Rattle.kinds.proofs.Stored.{no-points, pointStored, stored-both, stored-nei
 use Rattle.rows.specs.Rows.{part, rows}
 use Rattle.rows.proofs.Parts.{length-part}
 use Rattle.tables.specs.Tables.{contactOf, pointOf, velAt, velOf}
-use Rattle.tables.proofs.Again.{contact-with, floor-rests, its-points, point-pressed, point-rubbed, same-vel, vel-of, vel-there}
+use Rattle.tables.proofs.Floats.{contact-with, floor-rests, its-points, point-pressed, point-rubbed, same-vel, vel-of, vel-there}
 use Rattle.cells.specs.Cells.{putContact, putIf, putPoint, putVel, velRow}
-use Rattle.cells.proofs.Again.{a-written, b-written, bodies-as-long, head-stays, vel-elsewhere, vel-written}
+use Rattle.cells.proofs.Written.{a-written, b-written, bodies-as-long, head-stays, vel-elsewhere, vel-written}
 
 -- a row reads as what was written into it
 read-vel : (v : SolverVel) → velOf (velRow v) ≡ v

@@ -1,6 +1,6 @@
-pub mod Again
+pub mod Answers
 pub mod Back
-pub mod Kept
 pub mod Points
 pub mod Put
 pub mod Rows
+pub mod Written

@@ -2,7 +2,7 @@
 use Prim.Native.Nat.{ℕ, suc, _+_, _≤_}
 use native.Mathlib.Omega.{arith}
 use native.Mathlib.Nat.{add-assoc}
-use mathlib.Core.Bool.{Bool, true, false, _||_, cond}
+use mathlib.Core.Bool.{Bool, true, false, _||_}
 use mathlib.Core.List.{List, [], _∷_, _++_}
 use mathlib.Core.Path.{_≡_, refl, sym, _∙_, ap}
 use lib.ListN.{length}
@@ -35,6 +35,11 @@ module _ {S St A : Type 0} (step : S → St → Stepped A St) where
   length-answers [] st = refl
   length-answers (x ∷ ss) st = ap suc (length-answers ss (step x st .after))
 
+-- a test counts for one at most
+pub one-at-most : (b : Bool) → (if b then 1 else 0) ≤ 1
+one-at-most true = omega arith
+one-at-most false = omega arith
+
 module _ {A : Type 0} (test : A → Bool) where
   pub count-none : count test [] ≡ 0
   unfolding count
@@ -45,10 +50,6 @@ module _ {A : Type 0} (test : A → Bool) where
   count-snoc [] a = omega arith
   count-snoc (x ∷ l) a =
       ap (λ (n : ℕ). (if test x then 1 else 0) + n) (count-snoc l a) ∙ sym (add-assoc (if test x then 1 else 0) (count test l) (if test a then 1 else 0))
-
-  one-at-most : (b : Bool) → cond b 1 0 ≤ 1
-  one-at-most true = omega arith
-  one-at-most false = omega arith
 
   pub count-le : (l : List A) → count test l ≤ length l
   unfolding count

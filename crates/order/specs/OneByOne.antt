@@ -1,5 +1,5 @@
--- Document 01, "Port order": a list of steps done one by one, from its front. For any kind of step S, state St and answer A.
--- Assumes nothing.
+-- Document 01, "What the contracts have to leave no room for": "the plain one-by-one definition", a list of steps done from its front.
+-- For any kind of step S, state St and answer A. Assumes nothing.
 use Prim.Native.Nat.{ℕ, _+_}
 use mathlib.Core.Bool.{Bool, false, _||_}
 use mathlib.Core.List.{List, [], _∷_}

@@ -1,6 +1,5 @@
 -- The statements of specs/Promises.antt. Assumes nothing.
 use Prim.Native.Nat.{ℕ, _<_}
-use native.Mathlib.Omega.{arith}
 use mathlib.Core.Path.{_≡_, refl, sym, ap, _∙_}
 use mathlib.Core.Bool.{Bool, true, false, cond}
 use mathlib.Core.List.{List, [], _∷_}
@@ -24,6 +23,7 @@ use Rattle.refusals.specs.Refusals.{Condition, first}
 use Rattle.refusals.proofs.Chain.{none}
 use Rattle.refusals.proofs.Exact.{None, Rising, exactly, left, taken}
 use Rattle.promises.specs.Promises.{BranchOfPairs, ExactAnswers, FiniteDone, FloorKept, SameHead, Untouched}
+use Rattle.step.proofs.Chain.{not-both}
 use Rattle.step.specs.Step.{answer, asRead, asWritten, branch, conditions, firstOr, step, tried, writes, writtenVels}
 use Rattle.step.specs.declared.Outcome.{Outcome}
 use Rattle.step.specs.declared.Outcome.the-variants.{Done, Refused}
@@ -66,9 +66,6 @@ pub exact-answers : ExactAnswers
 exact-answers c kind v rows =
     rw (answers-first c kind v rows) (exactly 2 (conditions c kind (asRead (c .head) v) rows) (rising c kind (asRead (c .head) v) rows))
 
-never : {A : Type 0} {n : ℕ} {s : ContactSolved} → Refused n ≡ Done s → A
-never e = absurd (let z : _≡_ {A = ℕ} 0 1 = cc in omega arith)
-
 -- a step that is done passed every condition, and is what the routine made
 passed-all : (cs : List Condition) (made s : ContactSolved) → firstOr cs made ≡ Done s → None cs × (made ≡ s)
 unfolding firstOr
@@ -77,14 +74,14 @@ passed-all (c ∷ cs) made s e = by-case (c .holds) refl (passed-all cs made s) 
   where
     by-case : (b : Bool) → c .holds ≡ b → (firstOr cs made ≡ Done s → None cs × (made ≡ s))
         → cond b (Refused (c .number)) (firstOr cs made) ≡ Done s → ((c .holds ≡ false) × None cs) × (made ≡ s)
-    by-case true h rest e = never e
+    by-case true h rest e = not-both e
     by-case false h rest e = let r = rest e in ((h, r .0), r .1)
 
 -- written as it was made, but for the floor
 written-as : (h : ContactHead) (v : Vels) (o : Outcome) (s : ContactSolved) → asWritten h v o ≡ Done s
     → (made : ContactSolved) × (o ≡ Done made) × (s .branch ≡ made .branch) × (s .contact ≡ made .contact) × (s .vels ≡ writtenVels h v (made .vels))
 unfolding asWritten
-written-as h v (Refused n) s e = never e
+written-as h v (Refused n) s e = not-both e
 written-as h v (Done made) s e = (made, refl, cc, cc, cc)
 
 -- what is known of a done step: the conditions that it passed, and what it is made of

@@ -21,10 +21,10 @@ use Rattle.rows.specs.Rows.{row, rows}
 use Rattle.rows.proofs.Laws.{row-fits}
 use Rattle.rows.proofs.Parts.{length-part}
 use Rattle.tables.specs.Tables.{contactAt, contactOf}
-use Rattle.tables.proofs.Again.{contact-there, floor-rests}
+use Rattle.tables.proofs.Floats.{contact-there, floor-rests}
 use Rattle.tables.proofs.Contacts.{no-numbers}
 use Rattle.cells.specs.Cells.{putImpulses, putVel}
-use Rattle.cells.proofs.Again.{bodies-as-long, floats-as-long, impulses-written}
+use Rattle.cells.proofs.Written.{bodies-as-long, floats-as-long, impulses-written}
 use Rattle.cells.proofs.Back.{contact-back, other-stays, own-back, zero-stays}
 use Rattle.sweep.specs.Sweep.{itsContact, velsAt}
 use Rattle.sweep.proofs.Done.{bodies-after, contact-after, done-there, its-contact, vels-are, vels-of}

@@ -1,4 +1,4 @@
 pub mod Parts
 pub mod Laws
 pub mod Lent
-pub mod Again
+pub mod Places

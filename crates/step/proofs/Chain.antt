@@ -1,5 +1,6 @@
 -- A chain of conditions, one at a time, over what a check found. Assumes nothing.
 use Prim.Native.Nat.{ℕ}
+use native.Mathlib.Omega.{arith}
 use mathlib.Core.Path.{_≡_, refl}
 use mathlib.Core.Bool.{Bool, true, false}
 use mathlib.Core.List.{List, [], _∷_}
@@ -37,6 +38,10 @@ module _ (c : Contact) (kind : ℕ) (v : Vels) {s : ContactSolved} (made : s ≡
 
   pub good : r ≡ false → Done s ≡ firstOr (10 when unwritable kind (routine kind c v) ∷ []) (routine kind c v)
   good t = rw (← made) (miss 10 [] s found t (done s))
+
+-- no outcome is both refused and done
+pub not-both : {A : Type 0} {n : ℕ} {s : ContactSolved} → Refused n ≡ Done s → A
+not-both e = absurd (let z : _≡_ {A = ℕ} 0 1 = cc in omega arith)
 
 -- a step: read, tried, written
 pub read-and-written : (c : Contact) (kind : ℕ) (v seen : Vels) (rows : ℕ) (tried-to : Outcome) {o : Outcome} → seen ≡ asRead (c .head) v

@@ -1,6 +1,5 @@
 -- A done step on the tables: its contact is there, the step on copies is done, and what stands in the tables after it. Assumes nothing.
 use Prim.Native.Nat.{ℕ, _<_}
-use native.Mathlib.Omega.{arith}
 use mathlib.Core.Bool.{Bool, true, false}
 use mathlib.Core.List.{List}
 use mathlib.Core.Path.{_≡_, refl, sym, ap}
@@ -14,16 +13,13 @@ use Rattle.kinds.specs.declared.ContactSolved.{ContactSolved}
 use Rattle.step.specs.Step.{step}
 use Rattle.step.specs.declared.Outcome.{Outcome}
 use Rattle.step.specs.declared.Outcome.the-variants.{Refused, Done}
+use Rattle.step.proofs.Chain.{not-both}
 use Rattle.rows.specs.Rows.{rows}
 use Rattle.tables.specs.Tables.{contactAt, velAt}
 use Rattle.tables.specs.declared.Step.{Step}
 use Rattle.cells.specs.Cells.{putImpulses, putVel}
 use Rattle.sweep.specs.Sweep.{Tables, itsContact, judged, outcome, stepOn, velsAt}
 use Rattle.sweep.proofs.Steps.{bodies-written, floats-written}
-
--- no outcome is both refused and done
-never : {A : Type 0} {n : ℕ} {d : ContactSolved} → Refused n ≡ Done d → A
-never e = absurd (let z : _≡_ {A = ℕ} 0 1 = cc in omega arith)
 
 -- a step that is judged done names a contact of the table, and was done before it was judged
 judged-done : (contacts : ℕ) (s : Step) (o : Outcome) (d : ContactSolved) → judged contacts s o ≡ Done d → (s .contact < contacts) × (o ≡ Done d)
@@ -32,7 +28,7 @@ judged-done contacts s o d e = by-case (ltb (s .contact) contacts) refl e
   where
     by-case : (b : Bool) → ltb (s .contact) contacts ≡ b → (if b then o else Refused 2) ≡ Done d → (s .contact < contacts) × (o ≡ Done d)
     by-case true h e = (ltb-true (s .contact) contacts h, e)
-    by-case false h e = never e
+    by-case false h e = not-both e
 
 -- its contact stands in the row that it names
 pub its-contact : (s : Step) (t : Tables) → itsContact s t ≡ contactAt (t .numbers) (t .floats) (s .contact)

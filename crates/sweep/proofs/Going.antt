@@ -3,7 +3,6 @@ use Prim.Native.Nat.{ℕ, zero, suc, _+_, _≤_, _<_}
 use native.Mathlib.Omega.{arith}
 use native.Mathlib.Nat.{add-suc, add-zero, suc-add, zero-add}
 use native.Mathlib.Numerals.{add-one}
-use mathlib.Core.Bool.{Bool, true, false}
 use mathlib.Core.List.{List, [], _∷_, _++_}
 use mathlib.Core.Path.{_≡_, refl, _∙_, ap}
 use lib.Ieee.{Float}
@@ -16,7 +15,7 @@ use Rattle.cells.specs.Cells.{putAnswer}
 use Rattle.cells.specs.declared.Answer.{Answer}
 use Rattle.tables.specs.declared.Step.{Step}
 use Rattle.order.specs.OneByOne.{answers, count, finish}
-use Rattle.order.proofs.Snoc.{answers-none, answers-snoc, count-le, count-none, count-snoc, finish-none, finish-snoc, length-answers}
+use Rattle.order.proofs.Snoc.{answers-none, answers-snoc, count-le, count-none, count-snoc, finish-none, finish-snoc, length-answers, one-at-most}
 use Rattle.sweep.specs.Turn.{Turned}
 use Rattle.sweep.specs.Sweep.{Swept, Tables, firstSteps, isRefused, laid, stepOn, sweep, swept, tables}
 
@@ -72,13 +71,6 @@ module _ (steps : List ℕ) (t : Tables) (room : List ℕ) where
   unfolding sweep
   few-refused n = omega (arith, count-le isRefused (given n), length-answers stepOn (firstSteps steps n) t, length-first steps n)
 
-refusal-le : (a : Answer) → (if isRefused a then 1 else 0) ≤ 1
-refusal-le a = one (isRefused a)
-  where
-    one : (b : Bool) → (if b then 1 else 0) ≤ 1
-    one true = omega arith
-    one false = omega arith
-
 -- after i of n steps
 pub record Going (steps : List ℕ) (n : ℕ) (b₀ : List Float) (numbers : List ℕ) (f₀ : List Float) (room₀ : List ℕ)
     (b f : List Float) (room : List ℕ) (i refused : ℕ) : Type 0 where
@@ -117,7 +109,7 @@ module _ (steps : List ℕ) (n : ℕ) (b₀ : List Float) (numbers : List ℕ) (
     -- the count fits where n does: no more were refused than were done
     pub count-fits : (a : Answer) {r : ℕ} → i < n → Fits w64 n → r ≡ (if isRefused a then 1 else 0) → Fits w64 (refused + r)
     count-fits a h fits e =
-        omega (arith, few-refused steps (tables b₀ numbers f₀) room₀ i, ap (λ (w : Swept). w .refused) (going .so-far), e, refusal-le a)
+        omega (arith, few-refused steps (tables b₀ numbers f₀) room₀ i, ap (λ (w : Swept). w .refused) (going .so-far), e, one-at-most (isRefused a))
 
     -- at the end
     pub gone : n ≤ i → swept (tables b numbers f) room refused ≡ sweep steps n (tables b₀ numbers f₀) room₀

@@ -10,7 +10,7 @@ use Rattle.rows.specs.Rows.{row, rows}
 use Rattle.tables.specs.Tables.{stepAt}
 use Rattle.cells.specs.Cells.{answerRow, putAnswer}
 use Rattle.cells.specs.declared.Answer.{Answer}
-use Rattle.cells.proofs.Kept.{answer-elsewhere, answer-there, room-as-long}
+use Rattle.cells.proofs.Answers.{answer-elsewhere, answer-there, room-as-long}
 use Rattle.order.specs.OneByOne.{finish}
 use Rattle.order.proofs.Snoc.{answers-none}
 use Rattle.sweep.specs.Sweep.{Swept, Tables, firstSteps, laid, stepOn, sweep}

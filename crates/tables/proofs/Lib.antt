@@ -1,3 +1,3 @@
 pub mod Contacts
-pub mod Again
+pub mod Floats
 pub mod Velocities

@@ -1,4 +1,4 @@
--- Reading a stretch again after it was written: a row read, and one place set anew as the parts of the stretch see it. Assumes nothing.
+-- What a row that is there reads as, and one place of a stretch set anew as its parts see it. Assumes nothing.
 use Prim.Native.Nat.{ℕ, _+_, _≤_, _<_}
 use mathlib.Core.Path.{_≡_, refl, sym, _∙_, ap}
 use mathlib.Core.List.{List}

@@ -1,4 +1,4 @@
--- What a point, a contact and a body read as, by their floats: for reading them again after they were written. Assumes nothing.
+-- What a point, a contact and a body read as, by their floats. Assumes nothing.
 use Prim.Native.Nat.{ℕ, _/_, _<_}
 use native.Mathlib.Omega.{arith}
 use mathlib.Core.Bool.{true, false}
@@ -18,7 +18,7 @@ use Rattle.normal.specs.declared.ContactConstraintNormalPart.{ContactConstraint
 use Rattle.contact.specs.Contact.{contactZero, isFloor}
 use Rattle.contact.specs.declared.ContactPoint.{ContactPoint}
 use Rattle.rows.specs.Rows.{part, readRow, row, rows}
-use Rattle.rows.proofs.Again.{read-row, same-read, set-after, set-before, set-inside}
+use Rattle.rows.proofs.Places.{read-row, same-read, set-after, set-before, set-inside}
 use Rattle.rows.proofs.Parts.{length-part}
 use Rattle.tables.specs.Tables.{contactAt, contactOf, normalOf, pointOf, tangentOf, velAt, velOf}
 
