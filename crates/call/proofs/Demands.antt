@@ -55,20 +55,20 @@ module _ (s : Step) (t : Tables) where
 
 -- how a call ended: refused by its number, or all done
 module _ (lent : Lent) (budget : ℕ) (e : Ended) (so : Demand2 lent budget e) where
-  abbrev number : ℕ
+  abbrev pub number : ℕ
   number = first (wholeCall (lent .tables) (lent .steps) (lent .room))
 
-  abbrev done : ℕ
+  abbrev pub done : ℕ
   done = stepsDone lent budget
 
-  abbrev left : Swept
+  abbrev pub left : Swept
   left = sweep (lent .steps) done (lent .tables) (lent .room)
 
-  data How : Type 0 where
+  pub data How : Type 0 where
     refused-by : number ≢ 0 → e ≡ nothingDone number lent → How
     all-done : number ≡ 0 → e ≡ allDone done left → How
 
-  how : How
+  pub how : How
   unfolding oneByOne
   how = by-case (eqb number 0) refl
     where

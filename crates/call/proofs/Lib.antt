@@ -1,2 +1,3 @@
 pub mod Ends
 pub mod Demands
+pub mod Reordered

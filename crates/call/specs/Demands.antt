@@ -1,6 +1,7 @@
 -- What the user demands of a call, of everything that it may leave: `lent` is what was lent to it, `e` what it left. The call's contract
--- is `Demand2`; `Demand1` is proved of whatever meets it (proofs/Demands.antt). Assumes nothing.
-use Prim.Native.Nat.{ℕ, suc, _<_}
+-- is `Demand2`; `Demand1` is proved of whatever meets it (proofs/Demands.antt), and `Demand3` of any two that do
+-- (proofs/Reordered.antt). Assumes nothing.
+use Prim.Native.Nat.{ℕ, suc, _≤_, _<_}
 use mathlib.Core.Path.{_≡_}
 use mathlib.Core.Bool.{not}
 use mathlib.Core.List.{List, _∷_}
@@ -10,20 +11,26 @@ use Rattle.step.specs.Step.{asRead, conditions}
 use Rattle.refusals.specs.Refusals.{Condition, Exactly, _when_}
 use Rattle.rows.specs.Rows.{row, rows}
 use Rattle.cells.specs.Cells.{answerOf}
-use Rattle.tables.specs.Tables.{stepAt}
+use Rattle.cells.specs.declared.Answer.{Answer}
+use Rattle.tables.specs.Tables.{stepAs, stepAt}
 use Rattle.tables.specs.declared.Step.{Step}
 use Rattle.order.specs.OneByOne.{finish}
+use Rattle.order.specs.Reordered.{Reordered}
 use Rattle.sweep.specs.Sweep.{Tables, firstSteps, itsContact, stepOn, velsAt}
-use Rattle.checks.specs.Checks.{wholeCall}
+use Rattle.sharing.specs.Sharing.{Shares}
+use Rattle.checks.specs.Checks.{uneven, wholeCall}
 use Rattle.call.specs.Call.{Ended, Lent, nothingDone, oneByOne, stepsDone}
 
 -- the tables before step i, all steps before it done one by one
 unfoldable pub before : Lent → ℕ → Tables
 before lent i = finish stepOn (firstSteps (lent .steps) i) (lent .tables)
 
--- the number that step i was answered, in row i of the room
+-- what step i was answered, in row i of the room: its number and its branch
+abbrev pub answerTo : ℕ → Ended → Answer
+answerTo i e = answerOf (row 2 i (e .room))
+
 abbrev pub numberOf : ℕ → Ended → ℕ
-numberOf i e = answerOf (row 2 i (e .room)) .number
+numberOf i e = answerTo i e .number
 
 -- the conditions of a step on the tables, in number order
 unfoldable pub ofStep : Step → Tables → List Condition
@@ -49,3 +56,36 @@ pub record Demand1 (lent : Lent) (budget : ℕ) (e : Ended) : Type 0 where
 -- contacts and all the room are those of the plain one-by-one definition
 abbrev pub Demand2 : Lent → ℕ → Ended → Type 0
 Demand2 lent budget e = e ≡ oneByOne lent budget
+
+-- all steps of a list, in its order
+abbrev pub stepsOf : Lent → List Step
+stepsOf lent = firstSteps (lent .steps) (rows 2 (lent .steps))
+
+-- "Two lists of the same steps, in which any two steps that share a body or a contact stand in the same order", lent with the same tables.
+-- What two steps share is read off the tables as lent
+pub record Rearranged (one two : Lent) : Type 0 where
+  pub same-tables : two .tables ≡ one .tables
+  pub matching : Reordered (Shares (one .tables)) (stepAs 0 0) (stepsOf one) (stepsOf two)
+  -- numbers 1 and 4 look at the lists' and the rooms' sizes: each is a whole number of rows in both calls or in neither ..
+  pub steps-whole : uneven 2 (two .steps) ≡ uneven 2 (one .steps)
+  pub room-whole : uneven 2 (two .room) ≡ uneven 2 (one .room)
+  -- .. and the room is enough for the list in both or in neither
+  pub room-enough : ltb (rows 2 (two .room)) (rows 2 (two .steps)) ≡ ltb (rows 2 (one .room)) (rows 2 (one .steps))
+
+-- they "give each step the same answer and end in the same bits": e and e′ are what the two calls left
+pub record SameEnd (one two : Lent) (m : Rearranged one two) (e e′ : Ended) : Type 0 where
+  -- both are refused alike or not at all
+  pub refused-alike : e′ .refusal ≡ e .refusal
+  -- each step has the same number and branch, wherever it stands
+  pub same-answers : (i : ℕ) → i < e .done → answerTo (m .matching .there i) e′ ≡ answerTo i e
+  -- all bodies and all contacts
+  pub same-bits : e′ .tables ≡ e .tables
+  pub same-done : e′ .done ≡ e .done
+  pub same-refused : e′ .refused ≡ e .refused
+
+-- 3. Of any two such calls that run to their lists' ends; that each ends in the bits "of the one-by-one definition" is `Demand2`
+abbrev pub Demand3 : Type 0
+Demand3 =
+    (one two : Lent) (budget budget′ : ℕ) (e e′ : Ended) → Demand2 one budget e → Demand2 two budget′ e′
+    → rows 2 (one .steps) ≤ budget → rows 2 (two .steps) ≤ budget′
+    → (m : Rearranged one two) → SameEnd one two m e e′

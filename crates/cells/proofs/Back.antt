@@ -1,5 +1,5 @@
 -- What was written, read again: a body's velocity, a contact's impulses. Assumes nothing.
-use Prim.Native.Nat.{ℕ, _<_}
+use Prim.Native.Nat.{ℕ, _/_, _<_}
 use native.Mathlib.Omega.{arith}
 use mathlib.Core.Bool.{Bool, true, false}
 use mathlib.Core.List.{List}
@@ -41,7 +41,8 @@ module _ (bodies : List Float) (body : ℕ) (v : SolverVel) where
 
   -- another body's stays
   pub other-stays : (m : ℕ) → m ≢ body → velAt (putVel bodies body v) m ≡ velAt bodies m
-  other-stays m ne = same-vel bodies m (putVel bodies body v) (bodies-as-long bodies body v) (vel-elsewhere bodies body v m ne)
+  other-stays m ne =
+      same-vel bodies m (putVel bodies body v) (ap (λ (n : ℕ). n / 3) (bodies-as-long bodies body v)) (λ _ _. vel-elsewhere bodies body v m ne)
 
 -- a point, by which of its impulses are stored
 point-back : (n t : Bool) (p : ContactPoint) (l : List Float) → length l ≡ 18 → pointOf (putPoint n t p l) ≡ storedAt n t (pointOf l) p

@@ -2,10 +2,12 @@
 -- what stays. Assumes nothing.
 use Prim.Native.Nat.{ℕ, _+_, _≤_, _<_}
 use native.Mathlib.Omega.{arith}
+use native.Mathlib.Decide.{decLt, ℕ-discrete}
 use mathlib.Core.Bool.{Bool, true, false, _&&_}
 use mathlib.Core.List.{List}
 use mathlib.Core.Logic.{_≢_, inl, inr}
-use mathlib.Core.Path.{_≡_, refl, _∙_, ap}
+use mathlib.Core.Path.{_≡_, refl, sym, _∙_, ap}
+use borrow.Author.Tests.{ne-eqb}
 use lib.Dec.{lit≤, ltb}
 use lib.Ieee.{Float, nan}
 use lib.ListN.{length, length-set}
@@ -17,9 +19,10 @@ use Rattle.contact.specs.declared.ContactPoint.{ContactPoint}
 use Rattle.kinds.specs.Writes.{presses, rubs}
 use Rattle.rows.specs.Laws.{Keeps}
 use Rattle.rows.specs.Rows.{onPart, onRow, part, row, rows}
-use Rattle.rows.proofs.Laws.{as-long, other-rows, row-itself}
+use Rattle.rows.proofs.Laws.{as-long, other-rows, row-itself, row-local}
 use Rattle.rows.proofs.Parts.{length-onPart, length-part, part-itself, part-other}
 use Rattle.cells.specs.Cells.{putContact, putIf, putImpulses, putPoint, putVel, velRow}
+use Rattle.cells.proofs.Put.{vel-of-floor, vel-past}
 
 module _ (bodies : List Float) (body : ℕ) (v : SolverVel) where
   -- a body's row is three floats
@@ -40,6 +43,27 @@ module _ (bodies : List Float) (body : ℕ) (v : SolverVel) where
       by-case : (floor : Bool) → row 3 m (if floor then bodies else onRow 3 body (λ _. velRow v) bodies) ≡ row 3 m bodies
       by-case true = refl
       by-case false = other-rows Float 3 body (λ _. velRow v) bodies keeps-three m ne
+
+  -- a row stays, unless it is a real body's that is written
+  pub vel-stays : (m : ℕ) → (m ≡ body → isFloor m ≡ false → m < rows 3 bodies → ⊥) → row 3 m (putVel bodies body v) ≡ row 3 m bodies
+  vel-stays m unwritten = by-case (ℕ-discrete m body) (ℕ-discrete body 65535) (decLt body (rows 3 bodies))
+    where
+      by-case : Dec (m ≡ body) → Dec (body ≡ 65535) → Dec (body < rows 3 bodies) → row 3 m (putVel bodies body v) ≡ row 3 m bodies
+      by-case (no ne) _ _ = vel-elsewhere m ne
+      by-case (yes e) (yes floor) _ = sym (ap (row 3 m) (vel-of-floor bodies body v floor))
+      by-case (yes e) (no real) (no nl) = sym (ap (row 3 m) (vel-past bodies body v real (omega (arith, nl))))
+      by-case (yes e) (no real) (yes h) = absurd (unwritten e (rw e (ne-eqb body 65535 real)) (rw e h))
+
+  -- what a row comes to hangs on what it was and on how many rows there are
+  pub vel-local : (others : List Float) → rows 3 others ≡ rows 3 bodies → (m : ℕ) → row 3 m others ≡ row 3 m bodies
+      → row 3 m (putVel others body v) ≡ row 3 m (putVel bodies body v)
+  unfolding putVel
+  vel-local others many m same = by-case (isFloor body)
+    where
+      by-case : (floor : Bool) → row 3 m (if floor then others else onRow 3 body (λ _. velRow v) others)
+          ≡ row 3 m (if floor then bodies else onRow 3 body (λ _. velRow v) bodies)
+      by-case true = same
+      by-case false = row-local Float 3 body (λ _. velRow v) bodies keeps-three others many m same
 
   -- the table is as long as it was
   pub bodies-as-long : length (putVel bodies body v) ≡ length bodies
@@ -128,6 +152,17 @@ module _ (floats : List Float) (k kind : ℕ) (c : Contact) where
   pub impulses-written : k < rows 45 floats → row 45 k (putImpulses floats k kind c) ≡ putContact kind c (row 45 k floats)
   unfolding putImpulses
   impulses-written h = row-itself Float 45 k (putContact kind c) floats (contact-as-long kind c) h
+
+  -- every other row stays
+  pub impulses-elsewhere : (m : ℕ) → m ≢ k → row 45 m (putImpulses floats k kind c) ≡ row 45 m floats
+  unfolding putImpulses
+  impulses-elsewhere m ne = other-rows Float 45 k (putContact kind c) floats (contact-as-long kind c) m ne
+
+  -- what a row comes to hangs on what it was and on how many rows there are
+  pub impulses-local : (others : List Float) → rows 45 others ≡ rows 45 floats → (m : ℕ) → row 45 m others ≡ row 45 m floats
+      → row 45 m (putImpulses others k kind c) ≡ row 45 m (putImpulses floats k kind c)
+  unfolding putImpulses
+  impulses-local others many m same = row-local Float 45 k (putContact kind c) floats (contact-as-long kind c) others many m same
 
   -- the table is as long as it was
   pub floats-as-long : length (putImpulses floats k kind c) ≡ length floats

@@ -27,3 +27,8 @@ zero-contact p q s = cc
 pub zero-count : contactZero .head .count ≡ 0
 unfolding contactZero headZero
 zero-count = refl
+
+-- and joins a body with itself
+pub zero-bodies : contactZero .head .body1 ≡ contactZero .head .body2
+unfolding contactZero headZero
+zero-bodies = refl

@@ -1,1 +1,4 @@
 pub mod OneByOne
+pub mod Reordered
+pub mod Swaps
+pub mod Local

@@ -1,16 +1,17 @@
 -- The laws of rows, from those of parts. Assumes nothing.
-use Prim.Native.Nat.{ℕ, suc, _+_, _*_, _/_, _≤_, _<_}
+use Prim.Native.Nat.{ℕ, suc, _+_, _*_, _/_, _%_, _≤_, _<_}
 use native.Mathlib.Omega.{arith}
-use native.Mathlib.Nat.{div-mul-le-self, mul-le-mul-right, zero-div}
-use native.Mathlib.Decide.{decLt}
+use native.Mathlib.Nat.{div-add-mod', div-mul-le-self, mod-lt, mul-le-mul-right, zero-div}
+use native.Mathlib.Decide.{decLt, ℕ-discrete}
 use mathlib.Core.Path.{_≡_, refl, sym, _∙_, ap}
 use mathlib.Core.Logic.{_≢_, inl, inr}
 use mathlib.Core.List.{List, [], _∷_}
-use lib.ListN.{length}
+use lib.ListN.{drop, getD, length, length-drop, length-take}
+use lib.Seq.{ext-getD, getD-drop, getD-take}
 use borrow.Author.Tests.{lt-ltb, le-ltb}
 use Rattle.leaves.proofs.Pick.{take, pass}
 use Rattle.rows.specs.Rows.{onPart, onRow, part, row, rows}
-use Rattle.rows.specs.Laws.{AsLong, Keeps, OtherRows, RowItself, RowsCommute}
+use Rattle.rows.specs.Laws.{AllRows, AsLong, Keeps, OtherRows, RowItself, RowLocal, RowsCommute}
 use Rattle.rows.proofs.Parts.{Apart, length-onPart, length-part, part-itself, part-other, parts-commute}
 
 module _ {A : Type 0} (n k : ℕ) (f : List A → List A) (l : List A) where
@@ -92,3 +93,41 @@ rows-commute A n k f l keeps-f m g keeps-g ne = sides (decLt k (rows n l)) (decL
         ap (onRow n k f) (on-row-past n m g l (omega (arith, i))) ∙ sym (on-row-past n m g (onRow n k f l) (omega (arith, i, still-f)))
     sides (no h) _ =
         on-row-past n k f (onRow n m g l) (omega (arith, h, still-g)) ∙ sym (ap (onRow n m g) (on-row-past n k f l (omega (arith, h))))
+
+pub row-local : (A : Type 0) → RowLocal A
+row-local A n k f l keeps l′ many m same = by-case (ℕ-discrete m k) (decLt k (rows n l))
+  where
+    by-case : Dec (m ≡ k) → Dec (k < rows n l) → row n m (onRow n k f l′) ≡ row n m (onRow n k f l)
+    by-case (no ne) _ = other-rows A n k f l′ keeps m ne ∙ same ∙ sym (other-rows A n k f l keeps m ne)
+    by-case (yes e) (yes h) =
+        let here : row n k l′ ≡ row n k l = rw e at same in
+        rw e (row-itself A n k f l′ keeps (rw many h) ∙ ap f here ∙ sym (row-itself A n k f l keeps h))
+    by-case (yes e) (no nl) =
+        ap (row n m) (on-row-past n k f l′ (omega (arith, nl, many))) ∙ same ∙ sym (ap (row n m) (on-row-past n k f l (omega (arith, nl))))
+
+-- a stretch is as long as its whole rows and what stands past them
+length-rows : {A : Type 0} (n : ℕ) → 0 < n → (l : List A) → length l ≡ rows n l * n + length (row n (rows n l) l)
+unfolding part
+length-rows n pos l =
+    simp (length-take, length-drop) (omega (arith, div-add-mod' (length l) n, mod-lt (length l) pos))
+
+-- place j stands in row j / n, at j % n
+in-row : {A : Type 0} (n : ℕ) → 0 < n → (l : List A) (d : A) (j : ℕ) → getD (row n (j / n) l) (j % n) d ≡ getD l j d
+unfolding part
+in-row n pos l d j =
+    getD-take n (drop (j / n * n) l) (j % n) d (mod-lt j pos)
+    ∙ getD-drop (j / n * n) l (j % n) d
+    ∙ ap (λ (i : ℕ). getD l i d) (div-add-mod' j n)
+
+pub all-rows : (A : Type 0) → AllRows A
+all-rows A n pos l l′ many same = by-case l l′ long same
+  where
+    long : length l′ ≡ length l
+    long = length-rows n pos l′ ∙ rw (many, same (rows n l)) (sym (length-rows n pos l))
+
+    by-case : (x y : List A) → length y ≡ length x → ((k : ℕ) → row n k y ≡ row n k x) → y ≡ x
+    by-case [] [] e go = refl
+    by-case [] (y ∷ ys) e go = absurd (omega arith)
+    by-case (x ∷ xs) ys e go =
+        ext-getD x ys (x ∷ xs) e
+        (λ j h. sym (in-row n pos ys x j) ∙ ap (λ (r : List A). getD r (j % n) x) (go (j / n)) ∙ in-row n pos (x ∷ xs) x j)

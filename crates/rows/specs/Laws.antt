@@ -31,3 +31,13 @@ AsLong A = OfChanges A (λ n k f l. length (onRow n k f l) ≡ length l)
 abbrev pub RowsCommute : Type 0 → Type 0
 RowsCommute A =
     OfChanges A (λ n k f l. (m : ℕ) (g : List A → List A) → Keeps n g → k ≢ m → onRow n k f (onRow n m g l) ≡ onRow n m g (onRow n k f l))
+
+-- what a row comes to hangs on what it was and on how many rows there are, and on nothing else
+abbrev pub RowLocal : Type 0 → Type 0
+RowLocal A =
+    OfChanges A (λ n k f l. (l′ : List A) → rows n l′ ≡ rows n l → (m : ℕ) → row n m l′ ≡ row n m l
+    → row n m (onRow n k f l′) ≡ row n m (onRow n k f l))
+
+-- a stretch is its rows, what stands past the last whole one included
+abbrev pub AllRows : Type 0 → Type 0
+AllRows A = (n : ℕ) → 0 < n → (l l′ : List A) → rows n l′ ≡ rows n l → ((k : ℕ) → row n k l′ ≡ row n k l) → l′ ≡ l

@@ -3,7 +3,7 @@ use Prim.Native.Nat.{ℕ, _<_}
 use mathlib.Core.Bool.{Bool, true, false, not, _||_}
 use mathlib.Core.Logic.{_≢_}
 use mathlib.Core.Path.{_≡_, refl}
-use borrow.Author.Tests.{eqb-false, ltb-true}
+use borrow.Author.Tests.{eq-eqb, eqb-false, ltb-true}
 use lib.Dec.{eqb, ltb}
 use Rattle.leaves.proofs.Pick.{never}
 use Rattle.contact.specs.Contact.{isFloor}
@@ -27,6 +27,16 @@ right-bodies h rows right =
     by-case false false true p q r e = never e
     by-case false true z p q r e = never e
     by-case true y z p q r e = never e
+
+-- a body joined with itself is wrong
+pub with-itself : (h : ContactHead) (rows : ℕ) → h .body1 ≡ h .body2 → wrongBodies h rows ≡ true
+unfolding wrongBodies
+with-itself h rows same = by-case (nowhere (h .body1) rows) (nowhere (h .body2) rows)
+  where
+    by-case : (x y : Bool) → (x || y || eqb (h .body1) (h .body2)) ≡ true
+    by-case true y = refl
+    by-case false true = refl
+    by-case false false = eq-eqb (h .body1) (h .body2) same
 
 -- a body that is somewhere and not the floor is in the table
 pub in-table : (body rows : ℕ) → nowhere body rows ≡ false → isFloor body ≡ false → body < rows

@@ -1,17 +1,19 @@
 -- A chain of conditions, one at a time, over what a check found. Assumes nothing.
 use Prim.Native.Nat.{ℕ}
 use native.Mathlib.Omega.{arith}
-use mathlib.Core.Path.{_≡_, refl}
+use mathlib.Core.Path.{_≡_, refl, sym, _∙_, ap}
 use mathlib.Core.Bool.{Bool, true, false}
 use mathlib.Core.List.{List, [], _∷_}
+use Rattle.leaves.specs.Floats.{if_then_else_}
 use Rattle.leaves.proofs.Pick.{take, pass}
 use Rattle.velocity.specs.declared.Vels.{Vels}
 use Rattle.kinds.specs.Kinds.{routine}
 use Rattle.contact.specs.declared.Contact.{Contact}
 use Rattle.kinds.specs.declared.ContactSolved.{ContactSolved}
+use Rattle.shape.specs.Shape.{kindAbove, wrongBodies}
 use Rattle.values.specs.Values.{unwritable}
 use Rattle.refusals.specs.Refusals.{Condition, _when_}
-use Rattle.step.specs.Step.{asRead, asWritten, firstOr, step, tried}
+use Rattle.step.specs.Step.{asRead, asWritten, conditions, firstOr, step, tried}
 use Rattle.step.specs.declared.Outcome.{Outcome}
 use Rattle.step.specs.declared.Outcome.the-variants.{Done, Refused}
 
@@ -48,3 +50,21 @@ pub read-and-written : (c : Contact) (kind : ℕ) (v seen : Vels) (rows : ℕ) (
     → tried-to ≡ tried c kind seen rows → o ≡ asWritten (c .head) v tried-to → o ≡ step c kind v rows
 unfolding step
 read-and-written c kind v seen rows tried-to p q e = cc
+
+-- with wrong bodies a step is refused, whatever the velocities are
+refused-first : (c : Contact) (kind : ℕ) (v : Vels) (rows : ℕ) → wrongBodies (c .head) rows ≡ true
+    → (if kindAbove kind then Refused 3 else Refused 5) ≡ tried c kind v rows
+unfolding tried conditions firstOr
+refused-first c kind v rows wrong = rw wrong
+
+pub wrong-bodies-first : (c : Contact) (kind : ℕ) (v w : Vels) (rows : ℕ) → wrongBodies (c .head) rows ≡ true
+    → step c kind v rows ≡ step c kind w rows
+unfolding step asWritten
+wrong-bodies-first c kind v w rows wrong =
+    sym (ap (asWritten (c .head) v) (refused-first c kind (asRead (c .head) v) rows wrong))
+    ∙ by-case (kindAbove kind)
+    ∙ ap (asWritten (c .head) w) (refused-first c kind (asRead (c .head) w) rows wrong)
+  where
+    by-case : (b : Bool) → asWritten (c .head) v (if b then Refused 3 else Refused 5) ≡ asWritten (c .head) w (if b then Refused 3 else Refused 5)
+    by-case true = refl
+    by-case false = refl

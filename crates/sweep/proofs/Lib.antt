@@ -2,3 +2,4 @@ pub mod Steps
 pub mod Going
 pub mod Room
 pub mod Done
+pub mod Rows

@@ -1,20 +1,22 @@
 -- What a list leaves in the room: each step's answer in its own row, every later row as it was. Assumes nothing.
 use Prim.Native.Nat.{ℕ, zero, suc, _≤_, _<_}
 use native.Mathlib.Omega.{arith}
-use native.Mathlib.Nat.{eq-or-lt-of-le, le-of-suc-le-suc, not-suc-le-zero}
-use mathlib.Core.List.{List}
+use native.Mathlib.Nat.{add-zero, eq-or-lt-of-le, le-of-suc-le-suc, not-suc-le-zero}
+use mathlib.Core.List.{List, [], _∷_, _++_}
 use mathlib.Core.Logic.{⊎-elim}
-use mathlib.Core.Path.{_≡_, refl, _∙_, ap}
-use lib.ListN.{length}
+use mathlib.Core.Path.{_≡_, refl, sym, _∙_, ap}
+use lib.ListN.{List·getD-append, getD, length}
+use lib.Seq.{getD-append-add}
 use Rattle.rows.specs.Rows.{row, rows}
 use Rattle.tables.specs.Tables.{stepAt}
-use Rattle.cells.specs.Cells.{answerRow, putAnswer}
+use Rattle.cells.specs.Cells.{answerOf, answerRow, putAnswer}
 use Rattle.cells.specs.declared.Answer.{Answer}
-use Rattle.cells.proofs.Answers.{answer-elsewhere, answer-there, room-as-long}
-use Rattle.order.specs.OneByOne.{finish}
-use Rattle.order.proofs.Snoc.{answers-none}
-use Rattle.sweep.specs.Sweep.{Swept, Tables, firstSteps, laid, stepOn, sweep}
-use Rattle.sweep.proofs.Going.{sweep-suc}
+use Rattle.cells.proofs.Answers.{answer-elsewhere, answer-there, read-answer, room-as-long}
+use Rattle.order.specs.OneByOne.{answers, count, finish}
+use Rattle.order.proofs.Snoc.{answers-none, answers-snoc, length-answers}
+use Rattle.tables.specs.declared.Step.{Step}
+use Rattle.sweep.specs.Sweep.{Swept, Tables, firstSteps, isRefused, laid, stepOn, sweep}
+use Rattle.sweep.proofs.Going.{first-more, length-first, sweep-suc}
 
 module _ (steps : List ℕ) (t : Tables) (room : List ℕ) where
   -- after n steps: the tables, the room, and the answer of the next step
@@ -61,3 +63,37 @@ module _ (steps : List ℕ) (t : Tables) (room : List ℕ) where
   room-past zero i h = ap (row 2 i) room-none
   room-past (suc n) i h =
       ap (row 2 i) (room-suc n) ∙ answer-elsewhere (roomAfter n) n (nextAnswer n) i (λ e. omega arith) ∙ room-past n i (omega arith)
+
+  -- step i's answer is the i-th of the answers, and that is what row i says
+  given-at : (d : Answer) (n i : ℕ) → i < n → getD (answers stepOn (firstSteps steps n) t) i d ≡ nextAnswer i
+  given-at d zero i h = absurd (not-suc-le-zero h)
+  given-at d (suc n) i h =
+      ap (λ (l : List Answer). getD l i d) (ap (λ (ss : List Step). answers stepOn ss t) (first-more steps n) ∙ answers-snoc stepOn (firstSteps steps n) (stepAt steps n) t)
+      ∙ ⊎-elim at-end (λ lt. at-front lt ∙ given-at d n i lt) (eq-or-lt-of-le (le-of-suc-le-suc h))
+    where
+      before : List Answer
+      before = answers stepOn (firstSteps steps n) t
+
+      many : length before ≡ n
+      many = length-answers stepOn (firstSteps steps n) t ∙ length-first steps n
+
+      last : Answer
+      last = stepOn (stepAt steps n) (finish stepOn (firstSteps steps n) t) .answer
+
+      at-end : i ≡ n → getD (before ++ (last ∷ [])) i d ≡ nextAnswer i
+      at-end e =
+          ap (λ (j : ℕ). getD (before ++ (last ∷ [])) j d) (e ∙ sym many ∙ sym (add-zero (length before)))
+          ∙ getD-append-add before (last ∷ []) 0 d
+          ∙ sym (ap (λ (w : Tables). stepOn (stepAt steps n) w .answer) (tables-are n))
+          ∙ ap nextAnswer (sym e)
+
+      at-front : i < n → getD (before ++ (last ∷ [])) i d ≡ getD before i d
+      at-front lt = List·getD-append before (last ∷ []) d i (rw many lt)
+
+  pub answer-told : (d : Answer) (n i : ℕ) → i < n → n ≤ rows 2 room → answerOf (row 2 i (roomAfter n)) ≡ getD (answers stepOn (firstSteps steps n) t) i d
+  answer-told d n i h fits = ap answerOf (answer-row n i h fits) ∙ read-answer (nextAnswer i) ∙ sym (given-at d n i h)
+
+  -- as many are refused as have such an answer
+  pub refused-are : (n : ℕ) → sweep steps n t room .refused ≡ count isRefused (answers stepOn (firstSteps steps n) t)
+  unfolding sweep
+  refused-are n = refl

@@ -1,12 +1,14 @@
 -- What a point, a contact and a body read as, by their floats. Assumes nothing.
-use Prim.Native.Nat.{ℕ, _/_, _<_}
+use Prim.Native.Nat.{ℕ, _<_}
 use native.Mathlib.Omega.{arith}
-use mathlib.Core.Bool.{true, false}
+use native.Mathlib.Decide.{decLt}
+use mathlib.Core.Bool.{Bool, true, false}
 use mathlib.Core.List.{List, [], _∷_}
 use mathlib.Core.Path.{_≡_, refl, sym, _∙_, ap}
 use lib.Dec.{lit<, lit≤}
 use lib.Ieee.{Float}
-use lib.ListN.{length, set}
+use lib.ListN.{getD, length, set}
+use Rattle.leaves.specs.Floats.{if_then_else_}
 use Rattle.leaves.specs.Leaves.{vec}
 use Rattle.velocity.specs.Velocity.{rest}
 use Rattle.tangent.specs.Tangent.{tangentWith}
@@ -16,11 +18,13 @@ use Rattle.normal.specs.Normal.{normalWith}
 use Rattle.normal.proofs.Keeps.{normal-with}
 use Rattle.normal.specs.declared.ContactConstraintNormalPart.{ContactConstraintNormalPart}
 use Rattle.contact.specs.Contact.{contactZero, isFloor}
+use Rattle.contact.specs.declared.Contact.{Contact}
 use Rattle.contact.specs.declared.ContactPoint.{ContactPoint}
 use Rattle.rows.specs.Rows.{part, readRow, row, rows}
 use Rattle.rows.proofs.Places.{read-row, same-read, set-after, set-before, set-inside}
+use Rattle.rows.proofs.Lent.{read-past}
 use Rattle.rows.proofs.Parts.{length-part}
-use Rattle.tables.specs.Tables.{contactAt, contactOf, normalOf, pointOf, tangentOf, velAt, velOf}
+use Rattle.tables.specs.Tables.{contactAt, contactOf, headOf, normalOf, pointOf, tangentOf, velAt, velOf}
 
 module _ (x : Float) where
   -- a normal part's impulse stands at place 5 of its floats ..
@@ -89,6 +93,13 @@ contact-there numbers floats k h i =
     read-row 3 k (λ ids. readRow 45 k (contactOf ids) contactZero floats) contactZero numbers h
     ∙ read-row 45 k (contactOf (row 3 k numbers)) contactZero floats i
 
+-- a contact's two body numbers stand first in its row of numbers
+pub body-numbers : (numbers : List ℕ) (floats : List Float) (k : ℕ) → k < rows 3 numbers → k < rows 45 floats
+    → (contactAt numbers floats k .head .body1 ≡ getD (row 3 k numbers) 0 0) × (contactAt numbers floats k .head .body2 ≡ getD (row 3 k numbers) 1 0)
+unfolding contactOf headOf
+body-numbers numbers floats k h i =
+    (ap (λ (c : Contact). c .head .body1) (contact-there numbers floats k h i), ap (λ (c : Contact). c .head .body2) (contact-there numbers floats k h i))
+
 -- a body's three floats
 pub vel-of : (x y w : Float) → velOf (x ∷ y ∷ w ∷ []) ≡ record { linear = vec x y; angular = w }
 unfolding velOf
@@ -105,8 +116,15 @@ module _ (bodies : List Float) (body : ℕ) where
   unfolding velAt
   vel-there real h = rw real (read-row 3 body velOf rest bodies h)
 
-  -- a body's velocity hangs on its row and on how long the table is, and on nothing else
-  pub same-vel : (others : List Float)
-      → length others ≡ length bodies → row 3 body others ≡ row 3 body bodies → velAt others body ≡ velAt bodies body
+  -- a body's velocity hangs on its row, where it is a body of the table and not the floor, and on how many rows there are
+  pub same-vel : (others : List Float) → rows 3 others ≡ rows 3 bodies
+      → (isFloor body ≡ false → body < rows 3 bodies → row 3 body others ≡ row 3 body bodies) → velAt others body ≡ velAt bodies body
   unfolding velAt
-  same-vel others long same = rw (same-read 3 body velOf rest bodies others (ap (λ (n : ℕ). n / 3) long) same)
+  same-vel others many same = by-case (isFloor body) refl (decLt body (rows 3 bodies))
+    where
+      by-case : (floor : Bool) → isFloor body ≡ floor → Dec (body < rows 3 bodies)
+          → (if floor then rest else readRow 3 body velOf rest others) ≡ (if floor then rest else readRow 3 body velOf rest bodies)
+      by-case true floor _ = refl
+      by-case false real (yes h) = same-read 3 body velOf rest bodies others many (same real h)
+      by-case false real (no nl) =
+          sym (read-past 3 body others velOf rest (omega (arith, nl, many)) refl) ∙ read-past 3 body bodies velOf rest (omega (arith, nl)) refl
