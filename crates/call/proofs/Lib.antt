@@ -1,3 +1,4 @@
 pub mod Ends
 pub mod Demands
 pub mod Reordered
+pub mod Swapped

@@ -115,7 +115,7 @@ demand3 one two budget budget′ e e′ so so′ enough enough′ m = by-case (h
         each i h r =
             let inside : i < length (stepsOf one) = rw (length-first (one .steps) (rows 2 (one .steps))) h in
             let there-inside : m .matching .there i < rows 2 (two .steps) =
-                rw (length-first (two .steps) (rows 2 (two .steps))) at (m .matching .there-inside i inside) in
+            rw (length-first (two .steps) (rows 2 (two .steps))) at (m .matching .there-inside i inside) in
             tells two budget′ e′ enough′ z′ is′ (m .matching .there i) there-inside
             ∙ rw (m .same-tables) (r .same-answer i inside)
             ∙ sym (tells one budget e enough z is i h)

@@ -1,22 +1,37 @@
 -- When two calls on the same tables are refused alike. Assumes nothing.
+use Prim.Native.Nat.{ℕ}
+use mathlib.Core.Bool.{Bool}
 use mathlib.Core.List.{List}
 use mathlib.Core.Path.{_≡_}
-use Prim.Native.Nat.{ℕ}
 use lib.Dec.{ltb}
 use Rattle.rows.specs.Rows.{rows}
+use Rattle.tables.specs.declared.Step.{Step}
 use Rattle.order.specs.OneByOne.{any}
 use Rattle.sweep.specs.Sweep.{Tables, firstSteps}
-use Rattle.tables.specs.declared.Step.{Step}
-use mathlib.Core.Bool.{Bool}
 use Rattle.checks.specs.Checks.{flawed, someFlawed, someUneven, tooMany, uneven, wholeCall, wrongSizes}
 use Rattle.checks.specs.declared.Flaw.{Flaw}
 use Rattle.checks.specs.declared.Flaw.the-variants.{KindAbove, NoContact}
 
 module _ (t : Tables) (steps room steps′ room′ : List ℕ) where
+  -- 1: the list has as many rows, and list and room are whole rows in both or in neither
+  sizes-alike : rows 2 steps′ ≡ rows 2 steps → uneven 2 steps′ ≡ uneven 2 steps → uneven 2 room′ ≡ uneven 2 room
+      → wrongSizes t steps′ room′ ≡ wrongSizes t steps room
+  unfolding wrongSizes tooMany someUneven
+  sizes-alike many whole-steps whole-room = cc
+
+  -- 2, 3: a step of the one is flawed where a step of the other is
+  flawed-alike : ((test : Step → Bool) → any test (firstSteps steps′ (rows 2 steps′)) ≡ any test (firstSteps steps (rows 2 steps)))
+      → (flaw : Flaw) (contacts : ℕ) → someFlawed flaw contacts steps′ ≡ someFlawed flaw contacts steps
+  unfolding someFlawed
+  flawed-alike same flaw contacts = same (flawed flaw contacts)
+
   pub checked-alike : rows 2 steps′ ≡ rows 2 steps → uneven 2 steps′ ≡ uneven 2 steps → uneven 2 room′ ≡ uneven 2 room
       → ltb (rows 2 room′) (rows 2 steps′) ≡ ltb (rows 2 room) (rows 2 steps)
       → ((test : Step → Bool) → any test (firstSteps steps′ (rows 2 steps′)) ≡ any test (firstSteps steps (rows 2 steps)))
       → wholeCall t steps′ room′ ≡ wholeCall t steps room
-  unfolding wholeCall wrongSizes tooMany someUneven someFlawed
+  unfolding wholeCall
   checked-alike many whole-steps whole-room enough same =
-      rw (same (flawed NoContact (rows 45 (t .floats))), same (flawed KindAbove (rows 45 (t .floats))), enough, whole-steps, whole-room, many)
+      let one = sizes-alike many whole-steps whole-room in
+      let two = flawed-alike same NoContact (rows 45 (t .floats)) in
+      let three = flawed-alike same KindAbove (rows 45 (t .floats)) in
+      cc

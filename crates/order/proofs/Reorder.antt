@@ -123,9 +123,9 @@ module _ {S St A : Type 0} (step : S → St → Stepped A St) (Shares : S → S 
   reorder [] (y ∷ ys) m st g = absurd (none-left y ys m)
   reorder (x ∷ xs) ys m st g =
       let at-first : First x (m .there zero) ys st =
-          first x (m .there zero) ys st g (k-in x xs ys m) (m .same-step zero (zero-lt-suc (length xs))) (free x xs ys m) in
+      first x (m .there zero) ys st g (k-in x xs ys m) (m .same-step zero (zero-lt-suc (length xs))) (free x xs ys m) in
       let later : SameOutcome step (there′ x xs ys m) e xs (remove ys (m .there zero)) (step x st .after) =
-          reorder xs (remove ys (m .there zero)) (rest x xs ys m) (step x st .after) (good x st g) in
+      reorder xs (remove ys (m .there zero)) (rest x xs ys m) (step x st .after) (good x st g) in
       record {
         same-answer = at at-first later;
         same-end = at-first .end ∙ later .same-end;

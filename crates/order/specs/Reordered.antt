@@ -1,4 +1,4 @@
--- Document 01, demand 3, for any kind of step: two lists of the same steps, what has to stand in the same order, and what it means that
+-- Demand 3, for any kind of step: two lists of the same steps, what has to stand in the same order, and what it means that
 -- both come to the same. Assumes nothing.
 use Prim.Native.Nat.{ℕ, _<_}
 use mathlib.Core.Bool.{Bool}

@@ -123,7 +123,11 @@ pub all-rows : (A : Type 0) → AllRows A
 all-rows A n pos l l′ many same = by-case l l′ long same
   where
     long : length l′ ≡ length l
-    long = length-rows n pos l′ ∙ rw (many, same (rows n l)) (sym (length-rows n pos l))
+    long =
+        length-rows n pos l′
+        ∙ ap (λ (k : ℕ). k * n + length (row n k l′)) many
+        ∙ ap (λ (r : List A). rows n l * n + length r) (same (rows n l))
+        ∙ sym (length-rows n pos l)
 
     by-case : (x y : List A) → length y ≡ length x → ((k : ℕ) → row n k y ≡ row n k x) → y ≡ x
     by-case [] [] e go = refl

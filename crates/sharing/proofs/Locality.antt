@@ -134,7 +134,7 @@ module _ (s : Step) (t t′ : Tables) (agree : Agree feet s t t′) where
   same-vels : There s t → velsAt (t′ .bodies) (itsContact s t .head) ≡ velsAt (t .bodies) (itsContact s t .head)
   same-vels h =
       let look-at : (b : ℕ) → (b ≡ itsContact s t .head .body1) ⊎ (b ≡ itsContact s t .head .body2) → velAt (t′ .bodies) b ≡ velAt (t .bodies) b =
-          λ b side. same-vel (t .bodies) b (t′ .bodies) as-many-bodies (λ real in-table. agree .same-there (body b) (its-own s t h b side real in-table)) in
+      λ b side. same-vel (t .bodies) b (t′ .bodies) as-many-bodies (λ real in-table. agree .same-there (body b) (its-own s t h b side real in-table)) in
       vels-are (t′ .bodies) (itsContact s t .head)
       (look-at (itsContact s t .head .body1) (inl refl) ∙ sym (vels-of (t .bodies) (itsContact s t .head) .0))
       (look-at (itsContact s t .head .body2) (inr refl) ∙ sym (vels-of (t .bodies) (itsContact s t .head) .1))

@@ -24,7 +24,7 @@ module _ (sh : Shape) (s : Step) where
   -- a contact of the table is its step's own ..
   known : s .contact < rows 3 (sh .numbers) → s .contact < sh .contacts → isContact sh (s .contact) ≡ true
   unfolding isContact
-  known h i = both-hold _ _ (lt-ltb _ _ h) (lt-ltb _ _ i)
+  known h i = simp (lt-ltb (s .contact) (rows 3 (sh .numbers)) h, lt-ltb (s .contact) (sh .contacts) i)
 
   pub own-contact : s .contact < rows 3 (sh .numbers) → s .contact < sh .contacts → touches sh s (contact (s .contact)) ≡ true
   unfolding touches

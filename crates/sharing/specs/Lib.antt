@@ -1,2 +1,3 @@
 pub mod Sharing
 pub mod Locality
+pub mod Unshared

@@ -1,4 +1,4 @@
--- Document 01, demand 3: "any two steps that share a body or a contact", where "the floor is no shared body". Assumes nothing.
+-- Demand 3: "any two steps that share a body or a contact", where "the floor is no shared body". Assumes nothing.
 use Prim.Native.Nat.{ℕ}
 use mathlib.Core.Bool.{Bool, not, _&&_, _||_}
 use mathlib.Core.List.{List}

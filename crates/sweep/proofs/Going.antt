@@ -4,13 +4,14 @@ use native.Mathlib.Omega.{arith}
 use native.Mathlib.Nat.{add-suc, add-zero, suc-add, zero-add}
 use native.Mathlib.Numerals.{add-one}
 use mathlib.Core.List.{List, [], _∷_, _++_}
-use mathlib.Core.Path.{_≡_, refl, _∙_, ap}
+use mathlib.Core.Path.{_≡_, refl, _∙_, ap, ap₂}
 use lib.Ieee.{Float}
 use lib.ListN.{length, length-append}
 use mir.Syntax.{w64}
 use mir.Val.{Fits}
 use Rattle.leaves.specs.Floats.{if_then_else_}
-use Rattle.tables.specs.Tables.{stepAt}
+use Rattle.tables.specs.Tables.{stepAs, stepAt}
+use Rattle.tables.proofs.Steps.{step-first, step-later}
 use Rattle.cells.specs.Cells.{putAnswer}
 use Rattle.cells.specs.declared.Answer.{Answer}
 use Rattle.tables.specs.declared.Step.{Step}
@@ -33,6 +34,12 @@ pub length-first : (steps : List ℕ) (n : ℕ) → length (firstSteps steps n) 
 unfolding firstSteps
 length-first steps zero = refl
 length-first steps (suc n) = length-append (firstSteps steps n) (stepAt steps n ∷ []) ∙ rw (length-first steps n, add-one)
+
+-- a list's first steps, from its front
+pub first-front : (a b : ℕ) (l : List ℕ) (n : ℕ) → firstSteps (a ∷ b ∷ l) (suc n) ≡ stepAs a b ∷ firstSteps l n
+unfolding firstSteps
+first-front a b l zero = ap (λ (s : Step). s ∷ []) (step-first a b l)
+first-front a b l (suc n) = ap₂ (λ (ss : List Step) (s : Step). ss ++ (s ∷ [])) (first-front a b l n) (step-later a b l n)
 
 -- one answer more
 pub laid-snoc : (i : ℕ) (l : List Answer) (a : Answer) (room : List ℕ) → laid i (l ++ (a ∷ [])) room ≡ putAnswer (laid i l room) (i + length l) a

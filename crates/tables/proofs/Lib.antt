@@ -1,3 +1,4 @@
 pub mod Contacts
 pub mod Floats
 pub mod Velocities
+pub mod Steps

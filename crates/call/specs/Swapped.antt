@@ -1,0 +1,23 @@
+-- Which pairs of calls `Demand3` speaks of: those whose lists chains of harmless swaps lead from one to the other, and no others. Each
+-- statement is proved in proofs/Swapped.antt. Assumes nothing.
+use Prim.Native.Nat.{ℕ}
+use mathlib.Core.List.{List, [], _∷_}
+use Rattle.tables.specs.declared.Step.{Step}
+use Rattle.order.specs.Swaps.{Swaps}
+use Rattle.sweep.specs.Sweep.{Tables}
+use Rattle.sharing.specs.Sharing.{Shares}
+use Rattle.call.specs.Call.{Lent, lend}
+use Rattle.call.specs.Demands.{Rearranged, stepsOf}
+
+-- a list of steps as it is lent: 2 numbers a step
+unfoldable pub laidOut : List Step → List ℕ
+laidOut [] = []
+laidOut (s ∷ ss) = s .contact ∷ s .kind ∷ laidOut ss
+
+-- lists that swaps of two neighbours that share nothing make of each other, lent with the same tables and room
+abbrev pub SwapsCovered : Type 0
+SwapsCovered =
+    (t : Tables) (room : List ℕ) (xs ys : List Step) → Swaps (Shares t) xs ys → Rearranged (lend t (laidOut xs) room) (lend t (laidOut ys) room)
+
+abbrev pub OnlySwapsCovered : Type 0
+OnlySwapsCovered = (one two : Lent) → Rearranged one two → Swaps (Shares (one .tables)) (stepsOf one) (stepsOf two)
