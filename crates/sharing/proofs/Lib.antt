@@ -1,3 +1,4 @@
+pub mod Found
 pub mod Own
+pub mod Words
 pub mod Locality
-pub mod Unshared

@@ -1,43 +1,108 @@
--- Which rows are a step's own. Assumes nothing.
+-- Which rows are a step's own: what makes one so, and what is known of one that is. Assumes nothing.
 use Prim.Native.Nat.{ℕ, _<_}
 use mathlib.Core.Bool.{Bool, true, false, not, _&&_, _||_}
 use mathlib.Core.Logic.{_⊎_, inl, inr}
-use mathlib.Core.Path.{_≡_, refl, sym}
+use mathlib.Core.Path.{_≡_, refl, sym, _∙_}
 use lib.Dec.{eqb, ltb}
 use lib.ListN.{getD}
-use borrow.Author.Tests.{eq-eqb, lt-ltb}
+use borrow.Author.Tests.{eq-eqb, eqb-true, lt-ltb, ltb-true}
 use Rattle.leaves.proofs.Pick.{never}
 use Rattle.contact.specs.Contact.{isFloor}
 use Rattle.rows.specs.Rows.{row, rows}
 use Rattle.tables.specs.declared.Step.{Step}
-use Rattle.sharing.specs.Sharing.{Shape, body, contact, isBody, isContact, joins, touches}
+use Rattle.sweep.specs.Sweep.{Tables, itsContact}
+use Rattle.sharing.specs.Sharing.{body, contact, isBody, isContact, joins, shape, touches}
+use Rattle.sharing.specs.Words.{Names, There}
+use Rattle.sharing.proofs.Found.{numbers-of}
 
-both-hold : (a b : Bool) → a ≡ true → b ≡ true → (a && b) ≡ true
-both-hold a b p q = rw (p, q)
+-- two tests that both hold, and two of which one does
+hold-both : (a b : Bool) → (a && b) ≡ true → (a ≡ true) × (b ≡ true)
+hold-both true b e = (refl, e)
+hold-both false b e = never (sym e)
 
 one-holds : (a b : Bool) → (a ≡ true) ⊎ (b ≡ true) → (a || b) ≡ true
 one-holds true b h = refl
 one-holds false b (inl e) = never (sym e)
 one-holds false b (inr e) = e
 
-module _ (sh : Shape) (s : Step) where
-  -- a contact of the table is its step's own ..
-  known : s .contact < rows 3 (sh .numbers) → s .contact < sh .contacts → isContact sh (s .contact) ≡ true
+hold-one : (a b : Bool) → (a || b) ≡ true → (a ≡ true) ⊎ (b ≡ true)
+hold-one true b e = inl refl
+hold-one false b e = inr e
+
+-- a test that does not hold
+not-hold : (a : Bool) → not a ≡ true → a ≡ false
+not-hold true e = sym e
+not-hold false e = refl
+
+-- a contact of the table
+module _ (t : Tables) (k : ℕ) where
+  is-contact : There t k → isContact (shape t) k ≡ true
   unfolding isContact
-  known h i = simp (lt-ltb (s .contact) (rows 3 (sh .numbers)) h, lt-ltb (s .contact) (sh .contacts) i)
+  is-contact h = simp (lt-ltb k (rows 3 (t .numbers)) (h .0), lt-ltb k (rows 45 (t .floats)) (h .1))
 
-  pub own-contact : s .contact < rows 3 (sh .numbers) → s .contact < sh .contacts → touches sh s (contact (s .contact)) ≡ true
-  unfolding touches
-  own-contact h i = both-hold _ _ (eq-eqb (s .contact) (s .contact) refl) (known h i)
+  contact-is : isContact (shape t) k ≡ true → There t k
+  unfolding isContact
+  contact-is e =
+      let both = hold-both (ltb k (rows 3 (t .numbers))) (ltb k (rows 45 (t .floats))) e in
+      (ltb-true k (rows 3 (t .numbers)) (both .0), ltb-true k (rows 45 (t .floats)) (both .1))
 
-  -- .. and so is each body that it joins, if that is in the table and not the floor
-  pub own-body : s .contact < rows 3 (sh .numbers) → s .contact < sh .contacts → (b : ℕ)
-      → (b ≡ getD (row 3 (s .contact) (sh .numbers)) 0 0) ⊎ (b ≡ getD (row 3 (s .contact) (sh .numbers)) 1 0)
-      → isFloor b ≡ false → b < sh .bodies → touches sh s (body b) ≡ true
-  unfolding touches joins isBody
-  own-body h i b side real in-table = both-hold _ _ (both-hold _ _ (known h i) (one-holds _ _ (sides side))) (both-hold _ _ (lt-ltb _ _ in-table) (rw real))
+-- a body of the table that is not the floor
+module _ (t : Tables) (b : ℕ) where
+  is-body : isFloor b ≡ false → b < rows 3 (t .bodies) → isBody (shape t) b ≡ true
+  unfolding isBody
+  is-body real h = simp (real, lt-ltb b (rows 3 (t .bodies)) h)
+
+  body-is : isBody (shape t) b ≡ true → (isFloor b ≡ false) × (b < rows 3 (t .bodies))
+  unfolding isBody
+  body-is e =
+      let both = hold-both (ltb b (rows 3 (t .bodies))) (not (isFloor b)) e in
+      (not-hold (isFloor b) (both .1), ltb-true b (rows 3 (t .bodies)) (both .0))
+
+module _ (t : Tables) (s : Step) where
+  -- the two body numbers of the step's contact
+  abbrev one : ℕ
+  one = getD (row 3 (s .contact) (t .numbers)) 0 0
+
+  abbrev two : ℕ
+  two = getD (row 3 (s .contact) (t .numbers)) 1 0
+
+  joined : (b : ℕ) → Names t s b → joins (shape t) (s .contact) b ≡ true
+  unfolding joins
+  joined b n = one-holds (eqb b one) (eqb b two) (sides (n .side))
     where
-      sides : (b ≡ getD (row 3 (s .contact) (sh .numbers)) 0 0) ⊎ (b ≡ getD (row 3 (s .contact) (sh .numbers)) 1 0)
-          → (eqb b (getD (row 3 (s .contact) (sh .numbers)) 0 0) ≡ true) ⊎ (eqb b (getD (row 3 (s .contact) (sh .numbers)) 1 0) ≡ true)
-      sides (inl e) = inl (eq-eqb _ _ e)
-      sides (inr e) = inr (eq-eqb _ _ e)
+      sides : (b ≡ itsContact s t .head .body1) ⊎ (b ≡ itsContact s t .head .body2) → (eqb b one ≡ true) ⊎ (eqb b two ≡ true)
+      sides (inl e) = inl (eq-eqb b one (e ∙ numbers-of s t (n .there) .0))
+      sides (inr e) = inr (eq-eqb b two (e ∙ numbers-of s t (n .there) .1))
+
+  joins-of : (b : ℕ) → There t (s .contact) → joins (shape t) (s .contact) b ≡ true → Names t s b
+  unfolding joins
+  joins-of b h e = record { there = h; side = sides (hold-one (eqb b one) (eqb b two) e) }
+    where
+      sides : (eqb b one ≡ true) ⊎ (eqb b two ≡ true) → (b ≡ itsContact s t .head .body1) ⊎ (b ≡ itsContact s t .head .body2)
+      sides (inl p) = inl (eqb-true b one p ∙ sym (numbers-of s t h .0))
+      sides (inr p) = inr (eqb-true b two p ∙ sym (numbers-of s t h .1))
+
+  -- a contact of the table is its step's own ..
+  pub own-contact : There t (s .contact) → touches (shape t) s (contact (s .contact)) ≡ true
+  unfolding touches
+  own-contact h = simp (eq-eqb (s .contact) (s .contact) refl, is-contact t (s .contact) h)
+
+  -- .. and no other
+  pub contact-own : (k : ℕ) → touches (shape t) s (contact k) ≡ true → (k ≡ s .contact) × There t k
+  unfolding touches
+  contact-own k e =
+      let both = hold-both (eqb k (s .contact)) (isContact (shape t) k) e in
+      (eqb-true k (s .contact) (both .0), contact-is t k (both .1))
+
+  -- so is each body that it joins, if that is in the table and not the floor ..
+  pub own-body : (b : ℕ) → Names t s b → isFloor b ≡ false → b < rows 3 (t .bodies) → touches (shape t) s (body b) ≡ true
+  unfolding touches
+  own-body b n real h = simp (is-contact t (s .contact) (n .there), joined b n, is-body t b real h)
+
+  -- .. and no other
+  pub body-own : (b : ℕ) → touches (shape t) s (body b) ≡ true → Names t s b × (isFloor b ≡ false) × (b < rows 3 (t .bodies))
+  unfolding touches
+  body-own b e =
+      let all = hold-both (isContact (shape t) (s .contact) && joins (shape t) (s .contact) b) (isBody (shape t) b) e in
+      let its = hold-both (isContact (shape t) (s .contact)) (joins (shape t) (s .contact) b) (all .0) in
+      (joins-of b (contact-is t (s .contact) (its .0)) (its .1), body-is t b (all .1) .0, body-is t b (all .1) .1)

@@ -1,3 +1,3 @@
 pub mod Sharing
+pub mod Words
 pub mod Locality
-pub mod Unshared
