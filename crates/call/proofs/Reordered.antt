@@ -2,8 +2,7 @@
 use Prim.Native.Nat.{ℕ, _≤_, _<_}
 use native.Mathlib.Omega.{arith}
 use mathlib.Core.List.{List}
-use mathlib.Core.Logic.{_≢_}
-use mathlib.Core.Path.{_≡_, refl, sym, _∙_, ap}
+use mathlib.Core.Path.{_≡_, sym, _∙_, ap}
 use lib.ListN.{getD, length}
 use Rattle.refusals.specs.Refusals.{first}
 use Rattle.rows.specs.Rows.{rows}
@@ -13,7 +12,7 @@ use Rattle.order.specs.OneByOne.{answers, count, finish}
 use Rattle.order.specs.Reordered.{SameOutcome}
 use Rattle.order.proofs.Reorder.{same-any, same-length}
 use Rattle.order.proofs.Commuting.{any-order}
-use Rattle.sweep.specs.Sweep.{Tables, firstSteps, isRefused, stepOn, sweep}
+use Rattle.sweep.specs.Sweep.{isRefused, stepOn, sweep}
 use Rattle.sweep.proofs.Going.{length-first}
 use Rattle.sweep.proofs.Room.{answer-told, refused-are, tables-are}
 use Rattle.sharing.specs.Sharing.{feet}
@@ -22,7 +21,7 @@ use Rattle.checks.specs.Checks.{wholeCall}
 use Rattle.checks.proofs.Alike.{checked-alike}
 use Rattle.checks.proofs.Passed as passed
 use Rattle.call.specs.Call.{Ended, Lent, allDone, nothingDone, stepsDone}
-use Rattle.call.specs.Demands.{Demand2, Demand3, Rearranged, SameEnd, answerTo, stepsOf}
+use Rattle.call.specs.Demands.{Demand3, Rearranged, SameEnd, answerTo, stepsOf}
 use Rattle.call.proofs.Demands.{How, all-done, how, refused-by}
 
 -- what stands in for an answer past a list's end

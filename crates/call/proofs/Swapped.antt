@@ -10,14 +10,12 @@ use Rattle.tables.specs.Tables.{stepAs}
 use Rattle.tables.specs.declared.Step.{Step}
 use Rattle.tables.proofs.Steps.{rows-more}
 use Rattle.order.specs.Reordered.{Reordered}
-use Rattle.order.specs.Swaps.{Swaps}
 use Rattle.order.proofs.Reorder.{same-length}
 use Rattle.order.proofs.Swaps.{chains-covered, nothing-else}
-use Rattle.sweep.specs.Sweep.{Tables, firstSteps}
+use Rattle.sweep.specs.Sweep.{firstSteps}
 use Rattle.sweep.proofs.Going.{first-front, first-none}
 use Rattle.sharing.specs.Sharing.{Shares}
-use Rattle.call.specs.Call.{Lent, lend}
-use Rattle.call.specs.Demands.{Rearranged, stepsOf}
+use Rattle.call.specs.Demands.{stepsOf}
 use Rattle.call.specs.Swapped.{OnlySwapsCovered, SwapsCovered, laidOut}
 
 -- what is laid out is read again

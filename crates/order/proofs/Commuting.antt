@@ -1,10 +1,8 @@
 -- Two steps of a device that reads and writes only places of its own commute where they share none; so its lists may be reordered.
 -- Assumes nothing.
-use Prim.Native.Nat.{ℕ}
 use mathlib.Core.Bool.{Bool, true, false}
 use mathlib.Core.List.{List}
 use mathlib.Core.Path.{_≡_, refl, sym, ap, _∙_}
-use Rattle.order.specs.OneByOne.{Stepped}
 use Rattle.order.specs.Reordered.{Commute, Reordered, SameOutcome}
 use Rattle.order.specs.Local.{Agree, Device, Local, SameDone, Shared}
 use Rattle.order.proofs.Reorder.{reorder}

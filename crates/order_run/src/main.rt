@@ -8,8 +8,8 @@ ghost use Prim.Native.Nat.{_<_, _≤_};
 
 const FLOOR: u16 = 65535;
 
-// Where numbers stand in a contact's row of floats: in its head, in the normal part of its first point
-// and, from RUB_TORQUE1 on, in the tangent part.
+// Where numbers stand in a contact's row of floats: in its head, in the normal part of its first point,
+// from RUB_TORQUE1 on in the tangent part, and POINT_B further on in the second point.
 const DIR_Y: u16 = 1;
 
 const IM1_X: u16 = 2;
@@ -17,6 +17,10 @@ const IM1_X: u16 = 2;
 const IM1_Y: u16 = 3;
 
 const FRICTION: u16 = 6;
+
+const K12: u16 = 7;
+
+const FLAG: u16 = 8;
 
 const TORQUE1: u16 = 9;
 
@@ -41,6 +45,8 @@ const RUB_RHS: u16 = 23;
 const RUB_LOAD: u16 = 24;
 
 const RUB_R: u16 = 26;
+
+const POINT_B: u16 = 18;
 
 fn put(text: &[u8]) {
     io::write_all(STDOUT_FILENO, text);
@@ -258,7 +264,8 @@ fn three_lists() {
     put_compared(b"A and C", &bodies_a, &floats_a, &bodies_c, &floats_c);
 }
 
-// The orders of the night's list. Each foot has six steps: three on its heel, then three on its toe.
+// The orders of the night's list. Each foot has six steps: three on its heel, then three on its toe, of
+// which the first is a pair.
 enum Order {
     FootAfterFoot,
     Reverse,
@@ -267,7 +274,7 @@ enum Order {
     ToeFirst,
 }
 
-const KINDS: [u16; 6] = [0, 1, 2, 1, 3, 2];
+const KINDS: [u16; 6] = [0, 1, 2, 4, 3, 2];
 
 // The foot whose toe comes first in the last of the orders, and the contact with no point: the heel of
 // foot 17.
@@ -329,8 +336,13 @@ fn lay_list(steps: &mut [u16], order: Order) {
     }
 }
 
+// A heel touches at one point, a toe at two.
 fn points(contact: u16) -> u16 {
-    if contact == BROKEN { 0 } else { 1 }
+    if contact == BROKEN {
+        0
+    } else {
+        contact % 2 + 1
+    }
 }
 
 // Contacts 2 f and 2 f + 1 are the heel and the toe of foot f.
@@ -371,8 +383,18 @@ fn lay_heel(floats: &mut [f32], contact: u16, x: f32) {
     lay_rub(floats, contact, x);
 }
 
+fn lay_second_point(floats: &mut [f32], contact: u16) {
+    set_float(floats, contact, K12, 1.0);
+    set_float(floats, contact, FLAG, 1.0);
+    set_float(floats, contact, TORQUE1 + POINT_B, -0.2);
+    set_float(floats, contact, II1 + POINT_B, -0.1);
+    set_float(floats, contact, R + POINT_B, 0.95);
+    set_float(floats, contact, CFM + POINT_B, 1.0);
+}
+
 fn lay_toe(floats: &mut [f32], contact: u16, x: f32) {
     lay_contact(floats, contact, 0.9, 0.35, 0.65);
+    lay_second_point(floats, contact);
     set_float(floats, contact, CFM, 0.9);
     set_float(floats, contact, ACCUMULATOR, 1.0);
     set_float(floats, contact, SEED, -0.5 - x);

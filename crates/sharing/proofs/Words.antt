@@ -1,11 +1,9 @@
 -- Two steps share what the user's words say, and nothing else. Assumes nothing.
-use Prim.Native.Nat.{ℕ}
 use mathlib.Core.Bool.{true}
 use mathlib.Core.Path.{_≡_, sym, _∙_, subst}
 use borrow.Author.Tests.{eqb-false, ne-eqb}
 use Rattle.tables.specs.declared.Step.{Step}
 use Rattle.sweep.specs.Sweep.{Tables}
-use Rattle.order.specs.Local.{Shared}
 use Rattle.sharing.specs.Sharing.{Place, Shares, body, contact, shape, touches}
 use Rattle.sharing.specs.Words.{Share, SharingMeans, There, a-body, a-contact}
 use Rattle.sharing.proofs.Own.{body-own, contact-own, own-body, own-contact}

@@ -1,6 +1,5 @@
 -- A step reads and writes only its own contact's row and the rows of its own bodies, the floor not among them. Each statement is proved
 -- in proofs/Locality.antt. Assumes nothing.
-use mathlib.Core.Path.{_≡_}
 use Rattle.order.specs.Local.{AllThere, ReadsOwn, ShapeKept, WritesOwn}
 use Rattle.sharing.specs.Sharing.{feet}
 

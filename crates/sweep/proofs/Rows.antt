@@ -5,7 +5,6 @@ use mathlib.Core.List.{List}
 use mathlib.Core.Logic.{_≢_, _⊎_, inl, inr}
 use mathlib.Core.Path.{_≡_, refl, _∙_, ap}
 use lib.Ieee.{Float}
-use lib.ListN.{length}
 use Rattle.contact.specs.Contact.{isFloor}
 use Rattle.contact.specs.declared.ContactHead.{ContactHead}
 use Rattle.kinds.specs.declared.ContactSolved.{ContactSolved}
@@ -16,7 +15,7 @@ use Rattle.rows.specs.Rows.{row, rows}
 use Rattle.tables.specs.declared.Step.{Step}
 use Rattle.cells.specs.Cells.{putVel}
 use Rattle.cells.proofs.Written.{bodies-as-long, floats-as-long, impulses-elsewhere, impulses-local, vel-local, vel-stays}
-use Rattle.sweep.specs.Sweep.{Tables, itsContact, judged, newBodies, newFloats, outcome, stepOn, velsAt}
+use Rattle.sweep.specs.Sweep.{Tables, itsContact, newBodies, newFloats, outcome, stepOn, velsAt}
 
 module _ (h : ContactHead) where
   -- there are as many rows of bodies as there were

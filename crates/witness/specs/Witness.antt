@@ -1,6 +1,5 @@
 -- That the order of two steps that share a body matters: a foot comes down on heel and toe, and the two normal solves are worked out in
 -- both orders. Proved in proofs/Witness.antt. Assumes nothing.
-use Prim.Native.Nat.{ℕ}
 use mathlib.Core.List.{List, [], _∷_, _++_}
 use mathlib.Core.Logic.{_≢_}
 use mathlib.Core.Path.{_≡_}
