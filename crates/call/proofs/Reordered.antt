@@ -7,26 +7,20 @@ use lib.ListN.{getD, length}
 use Rattle.refusals.specs.Refusals.{first}
 use Rattle.rows.specs.Rows.{rows}
 use Rattle.cells.specs.declared.Answer.{Answer}
-use Rattle.tables.specs.Tables.{stepAs}
 use Rattle.order.specs.OneByOne.{answers, count, finish}
 use Rattle.order.specs.Reordered.{SameOutcome}
 use Rattle.order.proofs.Reorder.{same-any, same-length}
-use Rattle.order.proofs.Commuting.{any-order}
 use Rattle.sweep.specs.Sweep.{isRefused, stepOn, sweep}
 use Rattle.sweep.proofs.Going.{length-first}
 use Rattle.sweep.proofs.Room.{answer-told, refused-are, tables-are}
-use Rattle.sharing.specs.Sharing.{feet}
-use Rattle.sharing.proofs.Locality.{local}
+use Rattle.sharing.specs.Reordering.{noAnswer}
+use Rattle.sharing.proofs.Reordering.{lists-reordered}
 use Rattle.checks.specs.Checks.{wholeCall}
 use Rattle.checks.proofs.Alike.{checked-alike}
 use Rattle.checks.proofs.Passed as passed
 use Rattle.call.specs.Call.{Ended, Lent, allDone, nothingDone, stepsDone}
 use Rattle.call.specs.Demands.{Demand3, Rearranged, SameEnd, answerTo, stepsOf}
 use Rattle.call.proofs.Demands.{How, all-done, how, refused-by}
-
--- what stands in for an answer past a list's end
-abbrev none : Answer
-none = record { number = 0; branch = 0 }
 
 -- a call that is not refused and runs to its list's end
 module _ (lent : Lent) (budget : ℕ) (e : Ended) (enough : rows 2 (lent .steps) ≤ budget)
@@ -60,11 +54,11 @@ module _ (lent : Lent) (budget : ℕ) (e : Ended) (enough : rows 2 (lent .steps)
   unfolding allDone
   refuses = ap (λ (x : Ended). x .refused) is-all ∙ refused-are (lent .steps) (lent .tables) (lent .room) list
 
-  tells : (i : ℕ) → i < list → answerTo i e ≡ getD given i none
+  tells : (i : ℕ) → i < list → answerTo i e ≡ getD given i noAnswer
   unfolding allDone
   tells i h =
       ap (λ (x : Ended). answerTo i x) is-all
-      ∙ answer-told (lent .steps) (lent .tables) (lent .room) none list i h (passed.room-enough (lent .tables) (lent .steps) (lent .room) passes)
+      ∙ answer-told (lent .steps) (lent .tables) (lent .room) noAnswer list i h (passed.room-enough (lent .tables) (lent .steps) (lent .room) passes)
 
 module _ (one two : Lent) (m : Rearranged one two) where
   -- the lists are as long
@@ -82,8 +76,8 @@ module _ (one two : Lent) (m : Rearranged one two) where
       (λ test. same-any test (stepsOf one) (stepsOf two) (m .matching))))
 
   -- one by one, the lists come to the same
-  same : SameOutcome stepOn (m .matching .there) none (stepsOf one) (stepsOf two) (one .tables)
-  same = any-order feet local (stepAs 0 0) none (stepsOf one) (stepsOf two) (one .tables) (m .matching)
+  same : SameOutcome stepOn (m .matching .there) noAnswer (stepsOf one) (stepsOf two) (one .tables)
+  same = lists-reordered (stepsOf one) (stepsOf two) (one .tables) (m .matching)
 
 pub demand3 : Demand3
 unfolding nothingDone
@@ -100,7 +94,7 @@ demand3 one two budget budget′ e e′ so so′ enough enough′ m = by-case (h
     by-case (refused-by nz is) (all-done z is′) = absurd (nz (sym (alike one two m) ∙ z))
     by-case (all-done z is) (refused-by nz′ is′) = absurd (nz′ (alike one two m ∙ z))
     by-case (all-done z is) (all-done z′ is′) =
-        let r : SameOutcome stepOn (m .matching .there) none (stepsOf one) (stepsOf two) (one .tables) = same one two m in
+        let r : SameOutcome stepOn (m .matching .there) noAnswer (stepsOf one) (stepsOf two) (one .tables) = same one two m in
         record {
           refused-alike = none-refused two budget′ e′ enough′ z′ is′ ∙ sym (none-refused one budget e enough z is);
           same-answers = λ i h. each i (rw (all-steps one budget e enough z is) at h) r;
@@ -109,7 +103,7 @@ demand3 one two budget budget′ e e′ so so′ enough enough′ m = by-case (h
           same-refused = refuses two budget′ e′ enough′ z′ is′ ∙ rw (m .same-tables) (r .same-count isRefused) ∙ sym (refuses one budget e enough z is);
         }
       where
-        each : (i : ℕ) → i < rows 2 (one .steps) → SameOutcome stepOn (m .matching .there) none (stepsOf one) (stepsOf two) (one .tables)
+        each : (i : ℕ) → i < rows 2 (one .steps) → SameOutcome stepOn (m .matching .there) noAnswer (stepsOf one) (stepsOf two) (one .tables)
             → answerTo (m .matching .there i) e′ ≡ answerTo i e
         each i h r =
             let inside : i < length (stepsOf one) = rw (length-first (one .steps) (rows 2 (one .steps))) h in

@@ -73,6 +73,20 @@ module _ {S : Type 0} {Shares : S → S → Type 0} {d : S} (x : S) (xs ys : Lis
       after zero p h q s′ = omega arith
       after (suc i) p h q s′ = omega (arith, m .same-order zero (suc i) (zero-lt-suc i) h s′)
 
+-- where fewer pairs share something, fewer have to keep their order
+abbrev pub fewer : {S : Type 0} {Shares Shares′ : S → S → Type 0} {d : S} {xs ys : List S} → ((s t : S) → Shares s t → Shares′ s t)
+    → Reordered Shares′ d xs ys → Reordered Shares d xs ys
+fewer also m = record {
+  there = m .there;
+  back = m .back;
+  there-inside = m .there-inside;
+  back-inside = m .back-inside;
+  back-there = m .back-there;
+  there-back = m .there-back;
+  same-step = m .same-step;
+  same-order = λ i j l h s. m .same-order i j l h (also _ _ s);
+}
+
 module _ {S : Type 0} {Shares : S → S → Type 0} {d : S} where
   -- a list that no place of the other leads to has no place
   pub none-left : (y : S) (ys : List S) → Reordered Shares d [] (y ∷ ys) → ⊥

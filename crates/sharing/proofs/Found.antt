@@ -18,7 +18,7 @@ use Rattle.tables.proofs.Contacts.{no-floats, no-numbers}
 use Rattle.tables.proofs.Floats.{body-numbers}
 use Rattle.sweep.specs.Sweep.{Tables, itsContact, outcome, velsAt}
 use Rattle.sweep.proofs.Done.{done-there, its-contact}
-use Rattle.sharing.specs.Words.{There}
+use Rattle.sharing.specs.Sharing.{There}
 
 not-lt : (a b : ℕ) → ¬ (a < b) → b ≤ a
 not-lt a b n = omega (arith, n)

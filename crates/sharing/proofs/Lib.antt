@@ -1,4 +1,5 @@
 pub mod Found
 pub mod Own
-pub mod Words
+pub mod Sharing
 pub mod Locality
+pub mod Reordering

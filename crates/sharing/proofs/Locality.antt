@@ -21,9 +21,9 @@ use Rattle.order.specs.Local.{Agree, Local}
 use Rattle.sweep.specs.Sweep.{Tables, itsContact, outcome, stepOn, tables, velsAt}
 use Rattle.sweep.proofs.Done.{its-contact, vels-are, vels-of}
 use Rattle.sweep.proofs.Rows.{after-bodies, after-floats, after-numbers, bodies-as-many, body-local, body-stays, contact-local, contact-stays, floats-as-many, same-answer, same-outcome}
-use Rattle.sharing.specs.Sharing.{Place, Shape, body, contact, feet, look, shape, touches}
+use Rattle.sharing.specs.Own.{Place, Shape, body, contact, feet, look, shape, touches}
 use Rattle.sharing.specs.Locality.{Frame, Locality, NothingHidden, SameShape}
-use Rattle.sharing.specs.Words.{There}
+use Rattle.sharing.specs.Sharing.{There}
 use Rattle.sharing.proofs.Found.{done-found, reads-zero, there}
 use Rattle.sharing.proofs.Own.{own-body, own-contact}
 

@@ -11,8 +11,8 @@ use Rattle.contact.specs.Contact.{isFloor}
 use Rattle.rows.specs.Rows.{row, rows}
 use Rattle.tables.specs.declared.Step.{Step}
 use Rattle.sweep.specs.Sweep.{Tables, itsContact}
-use Rattle.sharing.specs.Sharing.{body, contact, isBody, isContact, joins, shape, touches}
-use Rattle.sharing.specs.Words.{Names, There}
+use Rattle.sharing.specs.Own.{body, contact, isBody, isContact, joins, shape, touches}
+use Rattle.sharing.specs.Sharing.{Names, There}
 use Rattle.sharing.proofs.Found.{numbers-of}
 
 -- two tests that both hold, and two of which one does

@@ -1,3 +1,4 @@
 pub mod Sharing
-pub mod Words
+pub mod Own
 pub mod Locality
+pub mod Reordering

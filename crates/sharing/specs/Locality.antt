@@ -1,7 +1,7 @@
 -- A step reads and writes only its own contact's row and the rows of its own bodies, the floor not among them. Each statement is proved
 -- in proofs/Locality.antt. Assumes nothing.
 use Rattle.order.specs.Local.{AllThere, ReadsOwn, ShapeKept, WritesOwn}
-use Rattle.sharing.specs.Sharing.{feet}
+use Rattle.sharing.specs.Own.{feet}
 
 -- no step changes how long the tables are, or a number of a contact
 abbrev pub SameShape : Type 0

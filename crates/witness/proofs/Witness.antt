@@ -1,8 +1,10 @@
 -- The statement of specs/Witness.antt, by computing it. Assumes nothing.
 use native.Mathlib.Omega.{arith}
 use mathlib.Core.List.{[], _∷_}
-use mathlib.Core.Logic.{_≢_}
+use mathlib.Core.Logic.{_≢_, inl}
 use mathlib.Core.Path.{_≡_, refl, sym, _∙_, ap}
+use borrow.Author.Tests.{eqb-false}
+use lib.Dec.{lit<}
 use lib.Ieee.{Float, add, binary32, le, lt, mul, ne, neg, ofBits, sub, toBits}
 use lib.ListN.{getD}
 use Rattle.leaves.specs.Finite.{finite}
@@ -15,13 +17,13 @@ use Rattle.shape.specs.Shape.{kindAbove, pairOfOne, wrongBodies, wrongCount}
 use Rattle.values.specs.Values.{belowCount, finiteHead, finiteNormal, finitePoint, finiteTangent, finiteVel, floorMoves, headOut, lostImpulse, notFinite, outOfRange, pointOut, unwritable}
 use Rattle.step.specs.Step.{asRead, asWritten, conditions, firstOr, reads, step, tried, writes, writtenVels}
 use Rattle.rows.specs.Rows.{onPart, onRow, part, readRow}
-use Rattle.tables.specs.Tables.{contactAt, contactOf, headOf, normalOf, pointOf, stepAs, tangentOf, velAt, velOf}
+use Rattle.tables.specs.Tables.{contactAt, contactOf, headOf, normalOf, pointOf, tangentOf, velAt, velOf}
+use Rattle.tables.specs.declared.Step.{Step}
 use Rattle.cells.specs.Cells.{putContact, putIf, putImpulses, putPoint, putVel, velRow}
 use Rattle.order.specs.OneByOne.{finish}
-use Rattle.order.proofs.Commuting.{any-order}
 use Rattle.sweep.specs.Sweep.{Tables, answered, itsContact, judged, newBodies, newFloats, outcome, stepOn, velsAt}
-use Rattle.sharing.specs.Sharing.{Shares, body, feet, isBody, isContact, joins, touches}
-use Rattle.sharing.proofs.Locality.{local}
+use Rattle.sharing.specs.Sharing.{Names, Shares, There, a-body}
+use Rattle.sharing.proofs.Reordering.{lists-reordered}
 use Rattle.witness.specs.Witness.{OrderMatters, falling, foot, heel, minus-half, toe}
 
 -- the two orders
@@ -45,10 +47,13 @@ differ : foot zero minus-half half half ≢ foot zero zero zero one
 unfolding turns
 differ e = bits-differ (ap (λ (t : Tables). toBits binary32 (turns t)) e)
 
--- both touch body 0
+-- both contacts are there, and body 0 is the first of each
+names-0 : (s : Step) → There falling (s .contact) → itsContact s falling .head .body1 ≡ 0 → Names falling s 0
+names-0 s h e = record { there = h; side = inl (sym e) }
+
 share : Shares falling heel toe
-unfolding touches isContact joins isBody part
-share = record { place = body 0; first = refl; second = refl }
+unfolding itsContact contactAt readRow contactOf headOf part
+share = a-body 0 (lit< tt) (eqb-false 0 65535 refl) (names-0 heel (lit< tt, lit< tt) refl) (names-0 toe (lit< tt, lit< tt) refl)
 
 pub order-matters : OrderMatters
 order-matters = record {
@@ -58,6 +63,6 @@ order-matters = record {
   not-the-same = differ;
   no-matching = λ m.
       differ (sym (worked-out .0)
-      ∙ sym (any-order feet local (stepAs 0 0) (record { number = 0; branch = 0 }) (heel ∷ toe ∷ []) (toe ∷ heel ∷ []) falling m .same-end)
+      ∙ sym (lists-reordered (heel ∷ toe ∷ []) (toe ∷ heel ∷ []) falling m .same-end)
       ∙ worked-out .1);
 }

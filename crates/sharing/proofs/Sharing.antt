@@ -1,16 +1,17 @@
--- Two steps share what the user's words say, and nothing else. Assumes nothing.
+-- Rows that are both steps' own are what the user's words say, and nothing else. Assumes nothing.
 use mathlib.Core.Bool.{true}
 use mathlib.Core.Path.{_≡_, sym, _∙_, subst}
 use borrow.Author.Tests.{eqb-false, ne-eqb}
 use Rattle.tables.specs.declared.Step.{Step}
 use Rattle.sweep.specs.Sweep.{Tables}
-use Rattle.sharing.specs.Sharing.{Place, Shares, body, contact, shape, touches}
-use Rattle.sharing.specs.Words.{Share, SharingMeans, There, a-body, a-contact}
+use Rattle.order.specs.Local.{Shared}
+use Rattle.sharing.specs.Own.{Place, SharedMeans, body, contact, feet, shape, touches}
+use Rattle.sharing.specs.Sharing.{Shares, There, a-body, a-contact}
 use Rattle.sharing.proofs.Own.{body-own, contact-own, own-body, own-contact}
 
 module _ (t : Tables) (s u : Step) where
   -- a place of both
-  in-words : (p : Place) → touches (shape t) s p ≡ true → touches (shape t) u p ≡ true → Share t s u
+  in-words : (p : Place) → touches (shape t) s p ≡ true → touches (shape t) u p ≡ true → Shares t s u
   in-words (contact k) e f =
       let of-s = contact-own t s k e in
       a-contact (subst (There t) (of-s .0) (of-s .1)) (sym (of-s .0) ∙ contact-own t u k f .0)
@@ -18,7 +19,7 @@ module _ (t : Tables) (s u : Step) where
       let of-s = body-own t s b e in
       a-body b (of-s .2) (eqb-false b 65535 (of-s .1)) (of-s .0) (body-own t u b f .0)
 
-  from-words : Share t s u → Shares t s u
+  from-words : Shares t s u → Shared feet (shape t) s u
   from-words (a-contact h e) = record {
     place = contact (s .contact);
     first = own-contact t s h;
@@ -30,5 +31,5 @@ module _ (t : Tables) (s u : Step) where
     second = own-body t u b m (ne-eqb b 65535 real) h;
   }
 
-pub sharing-means : SharingMeans
-sharing-means t s u = (λ x. in-words t s u (x .place) (x .first) (x .second), from-words t s u)
+pub shared-means : SharedMeans
+shared-means t s u = (λ x. in-words t s u (x .place) (x .first) (x .second), from-words t s u)
