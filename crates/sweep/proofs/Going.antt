@@ -15,7 +15,7 @@ use Rattle.tables.proofs.Steps.{step-first, step-later}
 use Rattle.cells.specs.Cells.{putAnswer}
 use Rattle.cells.specs.declared.Answer.{Answer}
 use Rattle.tables.specs.declared.Step.{Step}
-use Rattle.order.specs.OneByOne.{answers, count, finish}
+use Rattle.order.specs.OneByOne.{answers, finish}
 use Rattle.order.proofs.Snoc.{answers-none, answers-snoc, count-le, count-none, count-snoc, finish-none, finish-snoc, length-answers, one-at-most}
 use Rattle.sweep.specs.Turn.{Turned}
 use Rattle.sweep.specs.Sweep.{Swept, Tables, firstSteps, isRefused, laid, stepOn, sweep, swept, tables}
