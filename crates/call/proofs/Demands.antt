@@ -1,4 +1,4 @@
--- The demands of specs/Demands.antt, of whatever meets the call's contract. Assumes nothing.
+-- Demand 1, and that room past the steps done stays, of whatever meets the call's contract. (Demand 3 is in Reordered.antt.) Assumes nothing.
 use Prim.Native.Nat.{ℕ, suc, _≤_, _<_}
 use native.Mathlib.Omega.{arith}
 use mathlib.Core.Bool.{Bool, true, false, not}
@@ -20,10 +20,9 @@ use Rattle.cells.specs.Cells.{answerOf}
 use Rattle.tables.specs.Tables.{stepAt}
 use Rattle.cells.specs.declared.Answer.{Answer}
 use Rattle.tables.specs.declared.Step.{Step}
-use Rattle.cells.proofs.Answers.{read-answer}
 use Rattle.sweep.specs.Sweep.{Swept, Tables, itsContact, stepOn, sweep, velsAt}
 use Rattle.sweep.proofs.Steps.{number-of, refused-keeps}
-use Rattle.sweep.proofs.Room.{answer-row, room-past, tables-are, tables-suc}
+use Rattle.sweep.proofs.Room.{answer-read, room-past, tables-are, tables-suc}
 use Rattle.checks.specs.Checks.{wholeCall}
 use Rattle.checks.proofs.Passed as passed
 use Rattle.call.specs.Call.{Ended, Lent, allDone, nothingDone, oneByOne, stepsDone}
@@ -101,8 +100,7 @@ module _ (lent : Lent) (budget : ℕ) (e : Ended) (so : Demand2 lent budget e) w
         let room : rows 2 (lent .steps) ≤ rows 2 (lent .room) = passed.room-enough (lent .tables) (lent .steps) (lent .room) (passed-all how) in
         let many : e .done ≡ done = ap (λ (x : Ended). x .done) is in
         ap (λ (x : Ended). answerOf (row 2 i (x .room)) .number) is
-        ∙ ap (λ (l : List ℕ). answerOf l .number) (answer-row (lent .steps) (lent .tables) (lent .room) done i (omega arith) (omega arith))
-        ∙ ap (λ (a : Answer). a .number) (read-answer (stepOn (stepAt (lent .steps) i) (sweep (lent .steps) i (lent .tables) (lent .room) .tables) .answer))
+        ∙ ap (λ (a : Answer). a .number) (answer-read (lent .steps) (lent .tables) (lent .room) done i (omega arith) (omega arith))
         ∙ ap (λ (t : Tables). stepOn (stepAt (lent .steps) i) t .answer .number) (tables-are (lent .steps) (lent .tables) (lent .room) i)
 
     next : before lent (suc i) ≡ stepOn (stepAt (lent .steps) i) (before lent i) .after

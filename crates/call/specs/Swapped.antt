@@ -1,5 +1,5 @@
--- Which pairs of calls `Demand3` speaks of: those whose lists chains of harmless swaps lead from one to the other, and no others. Each
--- statement is proved in proofs/Swapped.antt. Assumes nothing.
+-- Which lists `Demand3` speaks of: those that chains of harmless swaps make of each other, and no others. Each statement is proved in
+-- proofs/Swapped.antt. Assumes nothing.
 use Prim.Native.Nat.{ℕ}
 use mathlib.Core.List.{List, [], _∷_}
 use Rattle.tables.specs.declared.Step.{Step}

@@ -1,5 +1,5 @@
 -- A point and a contact are written right where each part is. Assumes nothing.
-use Prim.Native.Nat.{ℕ, _-_}
+use Prim.Native.Nat.{ℕ}
 use mathlib.Core.Bool.{Bool, _&&_}
 use mathlib.Core.List.{List}
 use mathlib.Core.Path.{_≡_, _∙_, ap}
@@ -10,7 +10,7 @@ use borrow.Rule.Slice.PartMut.{putMid}
 use Rattle.contact.specs.declared.Contact.{Contact}
 use Rattle.contact.specs.declared.ContactPoint.{ContactPoint}
 use Rattle.kinds.specs.Writes.{presses, rubs}
-use Rattle.rows.specs.Rows.{onPart, part}
+use Rattle.rows.specs.Rows.{onPart}
 use Rattle.rows.proofs.Lent.{part-written}
 use Rattle.cells.specs.Cells.{putContact, putIf, putPoint}
 

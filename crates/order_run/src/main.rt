@@ -1,6 +1,6 @@
 // Runs the call on lists of the same steps in several orders, and says which orders leave the same
 // tables: the steps of two feet, written out, and a night of forty feet. The file `stdout` beside src/
-// has what document 01 says.
+// has what document 01's rules give for them.
 use call::Report;
 use call::call;
 use libc::STDOUT_FILENO;

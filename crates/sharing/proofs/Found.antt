@@ -33,7 +33,7 @@ module _ (s : Step) (t : Tables) where
       by-case (yes h) (no i) = no (λ x. i (x .1))
       by-case (no h) _ = no (λ x. h (x .0))
 
-  -- where it does not, the step reads a contact that joins a body with itself
+  -- where it is not, the step reads a contact that joins a body with itself
   pub reads-zero : ¬ There t (s .contact) → itsContact s t ≡ contactZero
   reads-zero nowhere = its-contact s t ∙ sym (by-case (decLt (s .contact) (rows 3 (t .numbers))))
     where

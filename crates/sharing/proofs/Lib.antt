@@ -1,3 +1,5 @@
+pub mod Unshared
+pub mod Whole
 pub mod Found
 pub mod Own
 pub mod Sharing

@@ -3,9 +3,7 @@ use Prim.Native.Nat.{ℕ}
 use mathlib.Core.Bool.{true}
 use mathlib.Core.List.{List}
 use mathlib.Core.Logic.{_⊎_, inl, inr}
-use mathlib.Core.Path.{_≡_, refl, sym, _∙_, ap}
-use lib.Dec.{lit<}
-use lib.Ieee.{Float}
+use mathlib.Core.Path.{_≡_, refl, sym, _∙_, ap, ap₂}
 use Rattle.leaves.proofs.Pick.{never}
 use Rattle.velocity.specs.declared.Vels.{Vels}
 use Rattle.contact.proofs.Zeros.{zero-bodies}
@@ -13,18 +11,18 @@ use Rattle.shape.proofs.Bodies.{with-itself}
 use Rattle.step.specs.Step.{step}
 use Rattle.step.proofs.Chain.{wrong-bodies-first}
 use Rattle.rows.specs.Rows.{row, rows}
-use Rattle.rows.proofs.Laws.{all-rows}
-use Rattle.tables.specs.Tables.{velAt}
+use Rattle.tables.specs.Tables.{contactOf, velAt}
 use Rattle.tables.specs.declared.Step.{Step}
 use Rattle.tables.proofs.Floats.{contact-there, same-vel}
 use Rattle.order.specs.Local.{Agree, Local}
-use Rattle.sweep.specs.Sweep.{Tables, itsContact, outcome, stepOn, tables, velsAt}
+use Rattle.sweep.specs.Sweep.{Tables, itsContact, outcome, stepOn, velsAt}
 use Rattle.sweep.proofs.Done.{its-contact, vels-are, vels-of}
 use Rattle.sweep.proofs.Rows.{after-bodies, after-floats, after-numbers, bodies-as-many, body-local, body-stays, contact-local, contact-stays, floats-as-many, same-answer, same-outcome}
 use Rattle.sharing.specs.Own.{Place, Shape, body, contact, feet, look, shape, touches}
-use Rattle.sharing.specs.Locality.{Frame, Locality, NothingHidden, SameShape}
+use Rattle.sharing.specs.Locality.{Frame, Locality, SameFor, SameShape}
 use Rattle.sharing.specs.Sharing.{There}
 use Rattle.sharing.proofs.Found.{done-found, reads-zero, there}
+use Rattle.sharing.proofs.Whole.{nothing-hidden}
 use Rattle.sharing.proofs.Own.{own-body, own-contact}
 
 -- a shape is its three parts
@@ -49,17 +47,8 @@ frame s t (contact k) other =
     own : (s : Step) → There t (s .contact) → k ≡ s .contact → touches (shape t) s (contact k) ≡ true
     own s h e = rw e (own-contact t s h)
 
--- tables that agree where a step looks
-module _ (s : Step) (t t′ : Tables) (agree : Agree feet s t t′) where
-  same-numbers : t′ .numbers ≡ t .numbers
-  same-numbers = ap (λ (sh : Shape). sh .numbers) (agree .same-shape)
-
-  as-many-bodies : rows 3 (t′ .bodies) ≡ rows 3 (t .bodies)
-  as-many-bodies = ap (λ (sh : Shape). sh .bodies) (agree .same-shape)
-
-  as-many-contacts : rows 45 (t′ .floats) ≡ rows 45 (t .floats)
-  as-many-contacts = ap (λ (sh : Shape). sh .contacts) (agree .same-shape)
-
+-- tables that have the same where a step looks
+module _ (s : Step) (t t′ : Tables) (agree : SameFor s t t′) where
   -- the step's contact is the same
   same-contact : itsContact s t′ ≡ itsContact s t
   same-contact = by-case (there s t)
@@ -67,17 +56,17 @@ module _ (s : Step) (t t′ : Tables) (agree : Agree feet s t t′) where
       by-case : Dec (There t (s .contact)) → itsContact s t′ ≡ itsContact s t
       by-case (yes h) =
           its-contact s t′
-          ∙ contact-there (t′ .numbers) (t′ .floats) (s .contact) (rw same-numbers (h .0)) (rw as-many-contacts (h .1))
-          ∙ rw (same-numbers, agree .same-there (contact (s .contact)) (own-contact t s h))
-          (sym (its-contact s t ∙ contact-there (t .numbers) (t .floats) (s .contact) (h .0) (h .1)))
+          ∙ contact-there (t′ .numbers) (t′ .floats) (s .contact) (rw (agree .as-many-numbers) (h .0)) (rw (agree .as-many-contacts) (h .1))
+          ∙ ap₂ contactOf (agree .own-numbers) (agree .own-rows (contact (s .contact)) (own-contact t s h))
+          ∙ sym (its-contact s t ∙ contact-there (t .numbers) (t .floats) (s .contact) (h .0) (h .1))
       by-case (no nowhere) =
-          reads-zero s t′ (λ h. nowhere (rw (← same-numbers) (h .0), rw (← as-many-contacts) (h .1))) ∙ sym (reads-zero s t nowhere)
+          reads-zero s t′ (λ h. nowhere (rw (← agree .as-many-numbers) (h .0), rw (← agree .as-many-contacts) (h .1))) ∙ sym (reads-zero s t nowhere)
 
   -- and so are the velocities of its bodies, where it has a contact
   same-vels : There t (s .contact) → velsAt (t′ .bodies) (itsContact s t .head) ≡ velsAt (t .bodies) (itsContact s t .head)
   same-vels h =
       let look-at : (b : ℕ) → (b ≡ itsContact s t .head .body1) ⊎ (b ≡ itsContact s t .head .body2) → velAt (t′ .bodies) b ≡ velAt (t .bodies) b =
-      λ b side. same-vel (t .bodies) b (t′ .bodies) as-many-bodies (λ real in-table. agree .same-there (body b) (own-body t s b (record { there = h; side = side }) real in-table)) in
+      λ b side. same-vel (t .bodies) b (t′ .bodies) (agree .as-many-bodies) (λ real in-table. agree .own-rows (body b) (own-body t s b (record { there = h; side = side }) real in-table)) in
       vels-are (t′ .bodies) (itsContact s t .head)
       (look-at (itsContact s t .head .body1) (inl refl) ∙ sym (vels-of (t .bodies) (itsContact s t .head) .0))
       (look-at (itsContact s t .head .body2) (inr refl) ∙ sym (vels-of (t .bodies) (itsContact s t .head) .1))
@@ -85,7 +74,7 @@ module _ (s : Step) (t t′ : Tables) (agree : Agree feet s t t′) where
   -- so the step on copies comes to the same
   same-tried : step (itsContact s t′) (s .kind) (velsAt (t′ .bodies) (itsContact s t′ .head)) (rows 3 (t′ .bodies))
       ≡ step (itsContact s t) (s .kind) (velsAt (t .bodies) (itsContact s t .head)) (rows 3 (t .bodies))
-  same-tried = rw (same-contact, as-many-bodies) (by-case (there s t))
+  same-tried = rw (same-contact, agree .as-many-bodies) (by-case (there s t))
     where
       by-case : Dec (There t (s .contact)) → step (itsContact s t) (s .kind) (velsAt (t′ .bodies) (itsContact s t .head)) (rows 3 (t .bodies))
           ≡ step (itsContact s t) (s .kind) (velsAt (t .bodies) (itsContact s t .head)) (rows 3 (t .bodies))
@@ -95,33 +84,35 @@ module _ (s : Step) (t t′ : Tables) (agree : Agree feet s t t′) where
           (with-itself (itsContact s t .head) (rows 3 (t .bodies)) (rw (reads-zero s t nowhere) zero-bodies))
 
   same : outcome s t′ ≡ outcome s t
-  same = same-outcome s t t′ as-many-contacts same-tried
+  same = same-outcome s t t′ (agree .as-many-contacts) same-tried
 
   -- what it leaves in a row that was the same is the same
   leaves : (p : Place) → look p t′ ≡ look p t → look p (stepOn s t′ .after) ≡ look p (stepOn s t .after)
   leaves (body b) e =
       ap (row 3 b) (after-bodies s t′)
-      ∙ rw (same-contact, same) (body-local (itsContact s t .head) (outcome s t) (t .bodies) (t′ .bodies) as-many-bodies b e)
+      ∙ rw (same-contact, same) (body-local (itsContact s t .head) (outcome s t) (t .bodies) (t′ .bodies) (agree .as-many-bodies) b e)
       ∙ sym (ap (row 3 b) (after-bodies s t))
   leaves (contact k) e =
       ap (row 45 k) (after-floats s t′)
-      ∙ rw same (contact-local s (outcome s t) (t .floats) (t′ .floats) as-many-contacts k e)
+      ∙ rw same (contact-local s (outcome s t) (t .floats) (t′ .floats) (agree .as-many-contacts) k e)
       ∙ sym (ap (row 45 k) (after-floats s t))
 
 pub locality : Locality
 locality s t t′ agree = record {
   answer = same-answer s t t′ (same s t t′ agree);
-  left = λ p own. leaves s t t′ agree p (agree .same-there p own);
+  left = λ p own. leaves s t t′ agree p (agree .own-rows p own);
 }
 
-tables-of : {b b′ f f′ : List Float} {n n′ : List ℕ} → b ≡ b′ → n ≡ n′ → f ≡ f′ → tables b n f ≡ tables b′ n′ f′
-tables-of p q r = cc
-
-pub nothing-hidden : NothingHidden
-nothing-hidden t t′ e same =
-    tables-of (all-rows Float 3 (lit< tt) (t .bodies) (t′ .bodies) (ap (λ (sh : Shape). sh .bodies) e) (λ b. same (body b))) (ap (λ (sh : Shape). sh .numbers) e)
-    (all-rows Float 45 (lit< tt) (t .floats) (t′ .floats) (ap (λ (sh : Shape). sh .contacts) e) (λ k. same (contact k)))
+-- tables of one shape that agree in a step's own rows have the same for it
+same-for : (s : Step) (t t′ : Tables) → Agree feet s t t′ → SameFor s t t′
+same-for s t t′ agree = record {
+  as-many-numbers = ap (λ (sh : Shape). rows 3 (sh .numbers)) (agree .same-shape);
+  as-many-contacts = ap (λ (sh : Shape). sh .contacts) (agree .same-shape);
+  as-many-bodies = ap (λ (sh : Shape). sh .bodies) (agree .same-shape);
+  own-numbers = ap (λ (sh : Shape). row 3 (s .contact) (sh .numbers)) (agree .same-shape);
+  own-rows = agree .same-there;
+}
 
 -- so the tables are a device whose steps read and write only places of their own
 pub local : Local feet
-local = record { shape-kept = same-shape; writes-own = frame; reads-own = locality; all-there = nothing-hidden }
+local = record { shape-kept = same-shape; writes-own = frame; reads-own = λ s t t′ agree. locality s t t′ (same-for s t t′ agree); all-there = nothing-hidden }

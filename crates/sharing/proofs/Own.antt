@@ -1,7 +1,7 @@
 -- Which rows are a step's own: what makes one so, and what is known of one that is. Assumes nothing.
 use Prim.Native.Nat.{ℕ, _<_}
 use mathlib.Core.Bool.{Bool, true, false, not, _&&_, _||_}
-use mathlib.Core.Logic.{_⊎_, inl, inr}
+use mathlib.Core.Logic.{_⊎_, inl, inr, ⊎-elim}
 use mathlib.Core.Path.{_≡_, refl, sym, _∙_}
 use lib.Dec.{eqb, ltb}
 use lib.ListN.{getD}
@@ -20,10 +20,13 @@ hold-both : (a b : Bool) → (a && b) ≡ true → (a ≡ true) × (b ≡ true)
 hold-both true b e = (refl, e)
 hold-both false b e = never (sym e)
 
-one-holds : (a b : Bool) → (a ≡ true) ⊎ (b ≡ true) → (a || b) ≡ true
-one-holds true b h = refl
-one-holds false b (inl e) = never (sym e)
-one-holds false b (inr e) = e
+one-holds : {b one two x : ℕ} → b ≡ x → (x ≡ one) ⊎ (x ≡ two) → (eqb b one || eqb b two) ≡ true
+one-holds {b} {one} {two} e (inl p) = rw (eq-eqb b one (e ∙ p))
+one-holds {b} {one} {two} e (inr p) = by-case (eqb b one) (eq-eqb b two (e ∙ p))
+  where
+    by-case : (a : Bool) {c : Bool} → c ≡ true → (a || c) ≡ true
+    by-case true q = refl
+    by-case false q = q
 
 hold-one : (a b : Bool) → (a || b) ≡ true → (a ≡ true) ⊎ (b ≡ true)
 hold-one true b e = inl refl
@@ -68,11 +71,10 @@ module _ (t : Tables) (s : Step) where
 
   joined : (b : ℕ) → Names t s b → joins (shape t) (s .contact) b ≡ true
   unfolding joins
-  joined b n = one-holds (eqb b one) (eqb b two) (sides (n .side))
-    where
-      sides : (b ≡ itsContact s t .head .body1) ⊎ (b ≡ itsContact s t .head .body2) → (eqb b one ≡ true) ⊎ (eqb b two ≡ true)
-      sides (inl e) = inl (eq-eqb b one (e ∙ numbers-of s t (n .there) .0))
-      sides (inr e) = inr (eq-eqb b two (e ∙ numbers-of s t (n .there) .1))
+  joined b n =
+      let first = numbers-of s t (n .there) .0 in
+      let second = numbers-of s t (n .there) .1 in
+      ⊎-elim (λ e. one-holds e (search inl)) (λ e. one-holds e (search (inl, inr))) (n .side)
 
   joins-of : (b : ℕ) → There t (s .contact) → joins (shape t) (s .contact) b ≡ true → Names t s b
   unfolding joins

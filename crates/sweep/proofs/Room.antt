@@ -49,7 +49,7 @@ module _ (steps : List ℕ) (t : Tables) (room : List ℕ) where
   as-many-rows (suc n) = ap length (room-suc n) ∙ room-as-long (roomAfter n) n (nextAnswer n) ∙ as-many-rows n
 
   -- row i has the answer of step i, once that is done
-  pub answer-row : (n i : ℕ) → i < n → n ≤ rows 2 room → row 2 i (roomAfter n) ≡ answerRow (nextAnswer i)
+  answer-row : (n i : ℕ) → i < n → n ≤ rows 2 room → row 2 i (roomAfter n) ≡ answerRow (nextAnswer i)
   answer-row zero i h fits = absurd (not-suc-le-zero h)
   answer-row (suc n) i h fits =
       ap (row 2 i) (room-suc n)
@@ -57,6 +57,9 @@ module _ (steps : List ℕ) (t : Tables) (room : List ℕ) where
       (λ e. rw e (answer-there (roomAfter n) n (nextAnswer n) (rw (as-many-rows n) (fits))))
       (λ lt. answer-elsewhere (roomAfter n) n (nextAnswer n) i (λ e. omega arith) ∙ answer-row n i lt (omega arith))
       (eq-or-lt-of-le (le-of-suc-le-suc h))
+
+  pub answer-read : (n i : ℕ) → i < n → n ≤ rows 2 room → answerOf (row 2 i (roomAfter n)) ≡ nextAnswer i
+  answer-read n i h fits = ap answerOf (answer-row n i h fits) ∙ read-answer (nextAnswer i)
 
   -- room past the steps done isn't touched
   pub room-past : (n i : ℕ) → n ≤ i → row 2 i (roomAfter n) ≡ row 2 i room
@@ -91,7 +94,7 @@ module _ (steps : List ℕ) (t : Tables) (room : List ℕ) where
       at-front lt = List·getD-append before (last ∷ []) d i (rw many lt)
 
   pub answer-told : (d : Answer) (n i : ℕ) → i < n → n ≤ rows 2 room → answerOf (row 2 i (roomAfter n)) ≡ getD (answers stepOn (firstSteps steps n) t) i d
-  answer-told d n i h fits = ap answerOf (answer-row n i h fits) ∙ read-answer (nextAnswer i) ∙ sym (given-at d n i h)
+  answer-told d n i h fits = answer-read n i h fits ∙ sym (given-at d n i h)
 
   -- as many are refused as have such an answer
   pub refused-are : (n : ℕ) → sweep steps n t room .refused ≡ count isRefused (answers stepOn (firstSteps steps n) t)

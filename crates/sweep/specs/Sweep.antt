@@ -1,5 +1,5 @@
 -- Document 01, "Tables" and "Numbers that refuse": one step on the tables, and a list of steps, one by one. Assumes nothing.
-use Prim.Native.Nat.{ℕ, zero, suc, _+_}
+use Prim.Native.Nat.{ℕ, zero, suc}
 use mathlib.Core.Bool.{Bool, not}
 use mathlib.Core.List.{List, [], _∷_, _++_}
 use lib.Dec.{eqb, ltb}

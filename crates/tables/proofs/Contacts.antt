@@ -10,7 +10,7 @@ use Rattle.contact.specs.Contact.{contactZero}
 use Rattle.contact.specs.declared.Contact.{Contact}
 use Rattle.contact.specs.declared.ContactHead.{ContactHead}
 use Rattle.contact.specs.declared.ContactPoint.{ContactPoint}
-use Rattle.rows.specs.Rows.{part, readRow, rows}
+use Rattle.rows.specs.Rows.{readRow, rows}
 use Rattle.rows.proofs.Lent.{between, read-past, read-there}
 use Rattle.tables.specs.Tables.{contactAt, contactOf, headOf, normalOf, pointOf, tangentOf}
 

@@ -1,1 +1,3 @@
 pub mod Witness
+pub mod TwoFeet
+pub mod Twice
