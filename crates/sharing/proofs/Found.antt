@@ -25,8 +25,8 @@ not-lt a b n = omega (arith, n)
 
 module _ (s : Step) (t : Tables) where
   -- it is there or not
-  pub there : Dec (There t (s .contact))
-  there = by-case (decLt (s .contact) (rows 3 (t .numbers))) (decLt (s .contact) (rows 45 (t .floats)))
+  pub there-or-not : Dec (There t (s .contact))
+  there-or-not = by-case (decLt (s .contact) (rows 3 (t .numbers))) (decLt (s .contact) (rows 45 (t .floats)))
     where
       by-case : Dec (s .contact < rows 3 (t .numbers)) → Dec (s .contact < rows 45 (t .floats)) → Dec (There t (s .contact))
       by-case (yes h) (yes i) = yes (h, i)
@@ -43,7 +43,7 @@ module _ (s : Step) (t : Tables) where
 
   -- a done step's contact is there
   pub done-found : (d : ContactSolved) → outcome s t ≡ Done d → There t (s .contact)
-  done-found d done = by-case there
+  done-found d done = by-case there-or-not
     where
       by-case : Dec (There t (s .contact)) → There t (s .contact)
       by-case (yes h) = h

@@ -21,7 +21,7 @@ use Rattle.sweep.proofs.Rows.{after-bodies, after-floats, after-numbers, bodies
 use Rattle.sharing.specs.Own.{Place, Shape, body, contact, feet, look, shape, touches}
 use Rattle.sharing.specs.Locality.{Frame, Locality, SameFor, SameShape}
 use Rattle.sharing.specs.Sharing.{There}
-use Rattle.sharing.proofs.Found.{done-found, reads-zero, there}
+use Rattle.sharing.proofs.Found.{done-found, reads-zero, there-or-not}
 use Rattle.sharing.proofs.Whole.{nothing-hidden}
 use Rattle.sharing.proofs.Own.{own-body, own-contact}
 
@@ -51,7 +51,7 @@ frame s t (contact k) other =
 module _ (s : Step) (t t′ : Tables) (agree : SameFor s t t′) where
   -- the step's contact is the same
   same-contact : itsContact s t′ ≡ itsContact s t
-  same-contact = by-case (there s t)
+  same-contact = by-case (there-or-not s t)
     where
       by-case : Dec (There t (s .contact)) → itsContact s t′ ≡ itsContact s t
       by-case (yes h) =
@@ -74,7 +74,7 @@ module _ (s : Step) (t t′ : Tables) (agree : SameFor s t t′) where
   -- so the step on copies comes to the same
   same-tried : step (itsContact s t′) (s .kind) (velsAt (t′ .bodies) (itsContact s t′ .head)) (rows 3 (t′ .bodies))
       ≡ step (itsContact s t) (s .kind) (velsAt (t .bodies) (itsContact s t .head)) (rows 3 (t .bodies))
-  same-tried = rw (same-contact, agree .as-many-bodies) (by-case (there s t))
+  same-tried = rw (same-contact, agree .as-many-bodies) (by-case (there-or-not s t))
     where
       by-case : Dec (There t (s .contact)) → step (itsContact s t) (s .kind) (velsAt (t′ .bodies) (itsContact s t .head)) (rows 3 (t .bodies))
           ≡ step (itsContact s t) (s .kind) (velsAt (t .bodies) (itsContact s t .head)) (rows 3 (t .bodies))

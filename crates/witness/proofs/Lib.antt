@@ -1,3 +1,4 @@
+pub mod WorkedOut
 pub mod Witness
 pub mod TwoFeet
 pub mod Twice

@@ -1,1 +1,2 @@
-// No code: two steps that share a body, worked out in both orders. The statement is in specs/.
+// No code: feet worked out in numbers, to show in which orders steps come to the same and in which not.
+// The statements are in specs/.
