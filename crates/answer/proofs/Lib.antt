@@ -1,0 +1,3 @@
+pub mod Fronts
+pub mod Floating
+pub mod Called

@@ -1,0 +1,12 @@
+pub mod Tests
+pub mod Counts
+pub mod Turn
+pub mod Accepted
+pub mod Nan
+pub mod Then
+pub mod Written
+pub mod Lengths
+pub mod Came
+pub mod Forms
+pub mod RoundTrip
+pub mod Printed

@@ -1,0 +1,20 @@
+-- `digits::dec_field` meets its contract. The tab, then the digits. Assumes nothing.
+use Rattle.digits.proofs.Written.{dec-after}
+use borrow.Author.Needs.{needs}
+use Rattle.digits.proofs.dec_field.Statement.{statement}
+use Rattle.digits.proofs.dec_field.Tie as tie
+
+put-requires : tie.Need-put-requires
+put-requires c κs = search needs
+
+put-digits-requires : tie.Need-put-digits-requires
+put-digits-requires c κs = search needs
+
+same-length : tie.Need-same-length
+same-length c = search needs
+
+returns : tie.Need-returns
+returns c = search dec-after
+
+pub dec-field-spec : {M : Type 1} → statement M
+dec-field-spec = tie.close (tie.spec put-requires put-digits-requires same-length returns)

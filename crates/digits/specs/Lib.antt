@@ -1,0 +1,4 @@
+pub mod Digits
+pub mod RoundTrip
+pub mod Bits
+pub mod Wrote

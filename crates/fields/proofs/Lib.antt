@@ -1,0 +1,3 @@
+pub mod Until
+pub mod Turn
+pub mod Rows

@@ -1,0 +1,4 @@
+pub mod LineBytes
+pub mod Spent
+pub mod Feeding
+pub mod Prefix

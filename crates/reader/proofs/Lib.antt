@@ -1,0 +1,5 @@
+pub mod Stored
+pub mod Room
+pub mod Order
+pub mod Puts
+pub mod Opened

@@ -1,0 +1,51 @@
+// The text program: a night's text on standard input, its answer on standard output. All that it does stands in
+// text::answer_front; here are the buffers, one that holds as much of any input as decides its output and one
+// that holds any output, and what is said on standard error where the input cannot be read to its end or the
+// output not written.
+use libc::STDERR_FILENO;
+use libc::STDIN_FILENO;
+use libc::STDOUT_FILENO;
+use text::answer_front;
+ghost use Prim.Native.Nat.{_≤_};
+ghost use lib.ListN.{length};
+
+fn read_input(input: &mut [u8]) -> usize {
+    io::read_full(STDIN_FILENO, input)
+}
+
+// Whether the input was read to its end, or as far as it decides: one more read tells an end from a failure.
+fn read_whole(n: usize) -> bool {
+    if n == 33313 {
+        return true;
+    }
+    let mut next = [0; 1];
+    libc::read(STDIN_FILENO, &mut next) == 0
+}
+
+// The first k bytes.
+fn tell(out: &[u8], k: usize)
+    requires { ⌜ k ≤ length (now out) ⌝ }
+{
+    if !io::write_all(STDOUT_FILENO, &out[..k]) {
+        io::write_all(STDERR_FILENO, b"sheet: the answer could not be written\n");
+    }
+}
+
+fn answer(input: &mut [u8; 33313], out: &mut [u8; 21100]) {
+    let n = read_input(&mut *input);
+    if !read_whole(n) {
+        io::write_all(
+            STDERR_FILENO,
+            b"sheet: the input could not be read to its end\n",
+        );
+        return;
+    }
+    let k = answer_front(&*input, n, &mut *out);
+    tell(out, k);
+}
+
+fn main() {
+    let mut input = [0; 33313];
+    let mut out = [0; 21100];
+    answer(&mut input, &mut out);
+}

@@ -1,0 +1,4 @@
+pub mod Fronts
+pub mod Bounds
+pub mod Whole
+pub mod Front

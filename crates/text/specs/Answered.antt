@@ -1,0 +1,36 @@
+-- What the text program leaves in its buffer, and how much of it is needed for any input. Assumes nothing.
+use Prim.Native.Nat.{ℕ, _≤_, _<_}
+use mathlib.Core.List.{List, [], _++_}
+use mathlib.Core.Path.{_≡_}
+use lib.ListN.{length, take}
+use lib.Seq.{sets}
+use Rattle.prefix.specs.Prefix.{enough}
+use Rattle.text.specs.Output.{output}
+
+-- the buffer o became o′, and `number` bytes of it are told
+pub record Answered (input o o′ : List ℕ) (number : ℕ) : Type 0 where
+  -- as many bytes as the output has
+  pub many : number ≡ length (output input)
+  -- the output stands at the buffer's front, and past it the buffer is as it was
+  pub bytes : o′ ≡ sets o 0 (output input)
+  -- so what is told is the output
+  pub told : take number o′ ≡ output input
+
+-- no output is longer than this: 256 A lines of at most 44 bytes, 64 B lines of 29, 128 I lines of at most 62, an E line of at most 44.
+-- Proved in proofs/Bounds.antt
+abbrev pub most : ℕ
+most = 21100
+
+abbrev pub OutputFits : Type 0
+OutputFits = (input : List ℕ) → length (output input) ≤ most
+
+-- the first 33,313 bytes of an input decide its output. Proved in proofs/Bounds.antt
+abbrev pub PrefixDecidesOutput : Type 0
+PrefixDecidesOutput = (input : List ℕ) → output (take enough input) ≡ output input
+
+-- n bytes of an input were read to the front of a buffer that holds 33,313
+pub record AnsweredFront (buffer : List ℕ) (n : ℕ) (o o′ : List ℕ) (number : ℕ) : Type 0 where
+  -- where nothing came after them unless they filled it, what is told is the output of the whole input, however long that is
+  pub whole : (rest : List ℕ) → n ≤ enough → (n < enough → rest ≡ []) → Answered (take n buffer ++ rest) o o′ number
+  -- and no more is told than there is
+  pub fits : number ≤ most

@@ -1,0 +1,6 @@
+pub mod Prints
+pub mod Small
+pub mod Kept
+pub mod AsLong
+pub mod Loads
+pub mod AsRead

@@ -1,0 +1,2 @@
+pub mod AsRead
+pub mod Loads
