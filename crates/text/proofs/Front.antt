@@ -23,13 +23,13 @@ module _ (buffer : List ℕ) (n : ℕ) {o o′ : List ℕ} {number : ℕ} where
   -- the input ended before the buffer did
   pub not-filled : length buffer ≡ 33313 → n < length buffer → Answered (take n buffer) o o′ number → AnsweredFront buffer n o o′ number
   not-filled long h v = record {
-    whole = λ rest few none. let e : rest ≡ [] = none (omega arith) in rw (e, append-nil) v;
+    whole = λ rest none. let e : rest ≡ [] = none (omega arith) in rw (e, append-nil) v;
     fits = within v;
   }
 
   -- the buffer is full, and decides
   pub filled : length buffer ≡ 33313 → length buffer ≤ n → Answered buffer o o′ number → AnsweredFront buffer n o o′ number
   filled long h v = record {
-    whole = λ rest few none. rw (take-all n buffer h) (same-output buffer (buffer ++ rest) (decided buffer rest long) v);
+    whole = λ rest none. rw (take-all n buffer h) (same-output buffer (buffer ++ rest) (decided buffer rest long) v);
     fits = within v;
   }

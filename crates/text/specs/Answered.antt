@@ -31,6 +31,6 @@ PrefixDecidesOutput = (input : List ℕ) → output (take enough input) ≡ outp
 -- n bytes of an input were read to the front of a buffer that holds 33,313
 pub record AnsweredFront (buffer : List ℕ) (n : ℕ) (o o′ : List ℕ) (number : ℕ) : Type 0 where
   -- where nothing came after them unless they filled it, what is told is the output of the whole input, however long that is
-  pub whole : (rest : List ℕ) → n ≤ enough → (n < enough → rest ≡ []) → Answered (take n buffer ++ rest) o o′ number
+  pub whole : (rest : List ℕ) → (n < enough → rest ≡ []) → Answered (take n buffer ++ rest) o o′ number
   -- and no more is told than there is
   pub fits : number ≤ most

@@ -24,8 +24,10 @@ fn answer_state(
     room: &mut [u16],
     out: &mut [u8],
 ) -> usize
-    requires { ⌜ Sane st (now b) (now n) (now f) (now s) × (length (now b) ≡ length (now xs)) × (length (now f) ≡ length (now ys)) × (length (now s) ≤ 512) × (now room ≡ zeros 512) ⌝ }
-    ensures { λ r. ⌜ Wrote (now (out .entry)) 0 (answer (nightOf st (now (b .entry)) (now (n .entry)) (now (f .entry)) (now (s .entry)))) (now (out .exit)) r ⌝ }
+    requires { ⌜ Sane st (now b) (now n) (now f) (now s) × (length (now b) ≡ length (now xs)) × (length (now f) ≡ length (now ys))
+        × (length (now s) ≤ 512) × (now room ≡ zeros 512) ⌝ }
+    ensures { λ r. ⌜ Wrote (now (out .entry)) 0
+        (answer (nightOf st (now (b .entry)) (now (n .entry)) (now (f .entry)) (now (s .entry)))) (now (out .exit)) r ⌝ }
 {
     let nb = st.bodies;
     let nn = st.numbers;
