@@ -63,18 +63,7 @@ fed-all s =
     let e : 0 + length s ≡ length s = omega arith in
     rw e at (all-fed s 0 (reading [] 1 blank) (record { before = 0; spent = nothing-spent; all = refl; short = omega arith }))
 
--- a refused text stays refused
-pub feeds-refused : (room : Room) (number reason : ℕ) (s : List ℕ) → feeds room (refused number reason) s ≡ refused number reason
-unfolding feeds feed
-feeds-refused room number reason [] = refl
-feeds-refused room number reason (b ∷ s) = feeds-refused room number reason s
-
--- a text cut in two
-pub feeds-append : (room : Room) (x : Text) (s u : List ℕ) → feeds room x (s ++ u) ≡ feeds room (feeds room x s) u
-unfolding feeds
-feeds-append room x [] u = refl
-feeds-append room x (b ∷ s) u = feeds-append room (feed room x b) s u
-
+-- no byte more
 pub feeds-none : (room : Room) (x : Text) → feeds room x [] ≡ x
 unfolding feeds
 feeds-none room x = refl

@@ -10,9 +10,10 @@ use lib.ListN.{drop, drop-of-length-le, length, length-take, take, take-append-d
 use Rattle.reader.specs.Night.{Night, blank, ofProgram}
 use Rattle.reader.specs.Lines.{Outcome, bad, good, readLine}
 use Rattle.lines.specs.Text.{Text, closed, cutShort, feeds, lineEnded, reading, refused, textOf, wholeContacts}
+use Rattle.lines.proofs.Closing.{feeds-append, feeds-refused}
 use Rattle.prefix.specs.Prefix.{LongestGood, PrefixDecides, TablesHold, enough, longest}
 use Rattle.prefix.proofs.Spent.{Spent, lacking, line-spent, none-lacking}
-use Rattle.prefix.proofs.Feeding.{Read, Reading, fed-all, feeds-append, feeds-none, feeds-refused}
+use Rattle.prefix.proofs.Feeding.{Read, Reading, fed-all, feeds-none}
 
 -- the tables hold no more lines
 spent-most : (t : Night) (w : ℕ) → Spent t w → w ≤ longest
