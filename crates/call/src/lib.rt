@@ -1,7 +1,7 @@
 // The call that the workshop's programs make: tables, a list of steps and room for answers are lent,
 // and the steps are done one by one, unless the whole call is refused. It asks nothing of its caller.
 use checks::whole_call;
-use sweep::sweep;
+use walk::sweep;
 ghost use mathlib.Core.Path.{_≡_};
 ghost use Prim.Native.Nat.{min};
 ghost use Rattle.sweep.specs.Sweep.{tables};

@@ -8,6 +8,7 @@ use mathlib.Core.Path.{_≡_, refl, sym, _∙_}
 use lib.Dec.{ltb}
 use lib.ListN.{drop, getD, length, take}
 use lib.Seq.{length-take-le}
+use Rattle.leaves.proofs.Said.{so, not-so}
 use Rattle.leaves.specs.Floats.{if_then_else_}
 use Rattle.digits.specs.Digits.{decOf, hexOf}
 use Rattle.fields.specs.Fields.{Nothing, Says, These, ended, fields, fieldsFrom, takes, thenBits, untilTab, values}
@@ -17,14 +18,6 @@ use Rattle.fields.specs.declared.Letter.{Letter}
 use Rattle.fields.specs.declared.Letter.the-variants.{Body, Contact, Normal, Tangent, Step, Other}
 use Rattle.fields.specs.declared.Row.{Row}
 use Rattle.fields.proofs.Until.{first, from-zero, past}
-
-not-so : (g : Bool) → not g ≡ true → g ≡ false
-not-so false e = refl
-not-so true e = sym e
-
-so : (g : Bool) → not g ≡ false → g ≡ true
-so true e = refl
-so false e = sym e
 
 -- the line's first field ends at `end`
 module _ (s : List ℕ) (end : ℕ) (at-end : end ≡ 0 + untilTab (drop 0 s)) where

@@ -134,7 +134,8 @@ fn restitution_at(head: ContactHead, point: ContactPoint, vels: Vels) -> PointSo
     )
 }
 
-fn over_points(contact: Contact, rule: Rule, vels: Vels) -> ContactSolved
+// A rule at the points below count, a then b.
+pub fn over_points(contact: Contact, rule: Rule, vels: Vels) -> ContactSolved
     ensures { λ r. ⌜ r ≡ overPoints rule contact vels ⌝ }
 {
     let head = contact.head;
@@ -153,7 +154,8 @@ fn over_points(contact: Contact, rule: Rule, vels: Vels) -> ContactSolved
     }
 }
 
-fn warmstart(contact: Contact, vels: Vels) -> ContactSolved
+// Kind 0: all normal parts, then all tangent parts.
+pub fn warmstart(contact: Contact, vels: Vels) -> ContactSolved
     ensures { λ r. ⌜ r ≡ warmStart contact vels ⌝ }
 {
     let pushed = over_points(contact, Rule::WarmNormal, vels);
@@ -162,7 +164,8 @@ fn warmstart(contact: Contact, vels: Vels) -> ContactSolved
     over_points(same, Rule::WarmTangent, between)
 }
 
-fn solve_pair(contact: Contact, vels: Vels) -> ContactSolved
+// Kind 4: both normal parts at once.
+pub fn solve_pair(contact: Contact, vels: Vels) -> ContactSolved
     ensures { λ r. ⌜ r ≡ pairOf contact vels ⌝ }
 {
     let head = contact.head;

@@ -1,2 +1,3 @@
 pub mod Itself
 pub mod Pick
+pub mod Said

@@ -18,7 +18,7 @@ use Rattle.kinds.specs.declared.ContactSolved.{ContactSolved}
 use Rattle.shape.proofs.Points.{two-points}
 use Rattle.values.proofs.Passed.{impulses-finite, velocity1-finite, velocity2-finite}
 use Rattle.shape.specs.Shape.{pairOfOne, wrongBodies, wrongCount}
-use Rattle.values.specs.Values.{finiteVel, notFinite, unwritable}
+use Rattle.values.specs.Values.{finiteVel, notFinite, outOfRange, unwritable}
 use Rattle.refusals.specs.Refusals.{Condition, first}
 use Rattle.refusals.proofs.Chain.{none}
 use Rattle.refusals.proofs.Exact.{None, Rising, exactly, left, taken}
@@ -86,14 +86,15 @@ written-as h v (Done made) s e = (made, refl, cc, cc, cc)
 
 -- what is known of a done step: the conditions that it passed, and what it is made of
 pub record Known (c : Contact) (kind : ℕ) (v : Vels) (s : ContactSolved) : Type 0 where
-  counted : wrongCount (c .head) ≡ false
-  paired : pairOfOne kind (c .head) ≡ false
-  read-finite : notFinite c (asRead (c .head) v) ≡ false
+  pub counted : wrongCount (c .head) ≡ false
+  pub paired : pairOfOne kind (c .head) ≡ false
+  pub read-finite : notFinite c (asRead (c .head) v) ≡ false
+  pub in-range : outOfRange c ≡ false
   writable : unwritable kind (routine kind c (asRead (c .head) v)) ≡ false
   contact : s .contact ≡ routine kind c (asRead (c .head) v) .contact
   vels : s .vels ≡ writtenVels (c .head) v (routine kind c (asRead (c .head) v) .vels)
 
-known : (c : Contact) (kind : ℕ) (v : Vels) (rows : ℕ) (s : ContactSolved) → step c kind v rows ≡ Done s → Known c kind v s
+pub known : (c : Contact) (kind : ℕ) (v : Vels) (rows : ℕ) (s : ContactSolved) → step c kind v rows ≡ Done s → Known c kind v s
 unfolding step tried conditions
 known c kind v rows s e =
     let seen = asRead (c .head) v in
@@ -103,6 +104,7 @@ known c kind v rows s e =
       counted = p .0 .1 .1 .0;
       paired = p .0 .1 .1 .1 .0;
       read-finite = p .0 .1 .1 .1 .1 .0;
+      in-range = p .0 .1 .1 .1 .1 .1 .0;
       writable = p .0 .1 .1 .1 .1 .1 .1 .0;
       contact = w .3 ∙ ap (λ (x : ContactSolved). x .contact) (sym (p .1));
       vels = w .4 ∙ ap (λ (x : ContactSolved). writtenVels (c .head) v (x .vels)) (sym (p .1));

@@ -4,6 +4,7 @@ use borrow.Author.Tests.{eq-eqb, ne-eqb}
 use mathlib.Core.Bool.{Bool, true, false, not}
 use mathlib.Core.List.{List}
 use mathlib.Core.Path.{_≡_, refl, sym}
+use Rattle.leaves.proofs.Said.{so, not-so}
 use Rattle.fields.specs.Letters.{lineLetter, rowSays, says}
 use Rattle.fields.specs.declared.Letter.{Letter}
 use Rattle.fields.specs.declared.Row.{Row}
@@ -11,14 +12,6 @@ use Rattle.reader.specs.Lines.{filled, full, good, nextPlace, readLetter
 use Rattle.reader.specs.Machine.{Put, ReadLine, nightOf, outcomeOf, roomOf}
 use Rattle.reader.specs.declared.State.{State}
 use Rattle.reader.specs.declared.Line.the-variants.{Good, Bad}
-
-so : (g : Bool) → not g ≡ false → g ≡ true
-so true e = refl
-so false e = sym e
-
-not-so : (g : Bool) → not g ≡ true → g ≡ false
-not-so false e = refl
-not-so true e = sym e
 
 module _ (st : State) (line b n f s : List ℕ) (l : Letter) (letter : l ≡ lineLetter line) where
   -- 2

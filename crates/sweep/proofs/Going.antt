@@ -1,14 +1,11 @@
--- The list, one step after the other: where it stands after i of n steps. Assumes nothing.
+-- A list's first steps, and what they leave, one step more at a time. Assumes nothing.
 use Prim.Native.Nat.{ℕ, zero, suc, _+_, _≤_, _<_}
 use native.Mathlib.Omega.{arith}
 use native.Mathlib.Nat.{add-suc, add-zero, suc-add, zero-add}
 use native.Mathlib.Numerals.{add-one}
 use mathlib.Core.List.{List, [], _∷_, _++_}
 use mathlib.Core.Path.{_≡_, refl, _∙_, ap, ap₂}
-use lib.Ieee.{Float}
 use lib.ListN.{length, length-append}
-use mir.Syntax.{w64}
-use mir.Val.{Fits}
 use Rattle.leaves.specs.Floats.{if_then_else_}
 use Rattle.tables.specs.Tables.{stepAs, stepAt}
 use Rattle.tables.proofs.Steps.{step-first, step-later}
@@ -17,7 +14,6 @@ use Rattle.cells.specs.declared.Answer.{Answer}
 use Rattle.tables.specs.declared.Step.{Step}
 use Rattle.order.specs.OneByOne.{answers, finish}
 use Rattle.order.proofs.Snoc.{answers-none, answers-snoc, count-le, count-none, count-snoc, finish-none, finish-snoc, length-answers, one-at-most}
-use Rattle.sweep.specs.Turn.{Turned}
 use Rattle.sweep.specs.Sweep.{Swept, Tables, firstSteps, isRefused, laid, stepOn, sweep, swept, tables}
 
 -- the list's first steps, one more at a time
@@ -77,47 +73,3 @@ module _ (steps : List ℕ) (t : Tables) (room : List ℕ) where
   pub few-refused : (n : ℕ) → sweep steps n t room .refused ≤ n
   unfolding sweep
   few-refused n = omega (arith, count-le isRefused (given n), length-answers stepOn (firstSteps steps n) t, length-first steps n)
-
--- after i of n steps
-pub record Going (steps : List ℕ) (n : ℕ) (b₀ : List Float) (numbers : List ℕ) (f₀ : List Float) (room₀ : List ℕ)
-    (b f : List Float) (room : List ℕ) (i refused : ℕ) : Type 0 where
-  pub so-far : swept (tables b numbers f) room refused ≡ sweep steps i (tables b₀ numbers f₀) room₀
-  pub within : i ≤ n
-  pub bodies-long : length b ≡ length b₀
-  pub floats-long : length f ≡ length f₀
-  pub room-long : length room ≡ length room₀
-
--- a step read, done, and its answer laid
-pub turned : (steps : List ℕ) (i : ℕ) (t : Tables) (room : List ℕ) {s : Step} {a : Answer} {t′ : Tables} {room′ : List ℕ} → s ≡ stepAt steps i
-    → record { answer = a; after = t′ } ≡ stepOn s t → room′ ≡ putAnswer room i a → Turned steps i t room a t′ room′
-turned steps i t room es ea er = record { done = rw (← es) ea; told = er }
-
-module _ (steps : List ℕ) (n : ℕ) (b₀ : List Float) (numbers : List ℕ) (f₀ : List Float) (room₀ : List ℕ) where
-  pub start-going : Going steps n b₀ numbers f₀ room₀ b₀ f₀ room₀ 0 0
-  unfolding sweep firstSteps laid
-  start-going = record { so-far = rw (finish-none stepOn (tables b₀ numbers f₀), answers-none stepOn (tables b₀ numbers f₀), count-none isRefused); within = omega arith; bodies-long = refl; floats-long = refl; room-long = refl }
-
-  module _ (b f : List Float) (room : List ℕ) (i refused : ℕ) (going : Going steps n b₀ numbers f₀ room₀ b f room i refused) where
-    -- one step more
-    pub go-on : (b′ f′ : List Float) (room′ : List ℕ) (a : Answer) (r : ℕ) → i < n
-        → Turned steps i (tables b numbers f) room a (tables b′ numbers f′) room′ → r ≡ (if isRefused a then 1 else 0)
-        → length b′ ≡ length b → length f′ ≡ length f → length room′ ≡ length room
-        → Going steps n b₀ numbers f₀ room₀ b′ f′ room′ (i + 1) (refused + r)
-    go-on b′ f′ room′ a r h turned ec kb kf kr =
-        let so = going .so-far in
-        record {
-          so-far = rw (add-one, sweep-suc steps (tables b₀ numbers f₀) room₀ i, ← so, ← turned .done, turned .told, ec);
-          within = omega arith;
-          bodies-long = kb ∙ going .bodies-long;
-          floats-long = kf ∙ going .floats-long;
-          room-long = kr ∙ going .room-long;
-        }
-
-    -- the count fits where n does: no more were refused than were done
-    pub count-fits : (a : Answer) {r : ℕ} → i < n → Fits w64 n → r ≡ (if isRefused a then 1 else 0) → Fits w64 (refused + r)
-    count-fits a h fits e =
-        omega (arith, few-refused steps (tables b₀ numbers f₀) room₀ i, ap (λ (w : Swept). w .refused) (going .so-far), e, one-at-most (isRefused a))
-
-    -- at the end
-    pub gone : n ≤ i → swept (tables b numbers f) room refused ≡ sweep steps n (tables b₀ numbers f₀) room₀
-    gone h = let e : i ≡ n = omega (arith, going .within) in rw e at (going .so-far)

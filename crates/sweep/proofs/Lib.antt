@@ -1,3 +1,4 @@
+pub mod AsRead
 pub mod Steps
 pub mod Going
 pub mod Room

@@ -41,15 +41,6 @@ pub floats-written : (s : Step) (o : Outcome) (d : ContactSolved) (floats : List
 unfolding newFloats
 floats-written s o d floats e p = rw e p
 
--- a step: read, tried, judged, written, answered
-module _ (bodies : List Float) (numbers : List ℕ) (floats : List Float) (s : Step) {c : Contact} {v : Vels} {tried o : Outcome} {b f : List Float}
-    {a : Answer} where
-  pub stepped : c ≡ contactAt numbers floats (s .contact) → v ≡ velsAt bodies (c .head) → tried ≡ step c (s .kind) v (rows 3 bodies)
-      → o ≡ judged (rows 45 floats) s tried → b ≡ newBodies (c .head) o bodies → f ≡ newFloats s o floats → a ≡ answered o
-      → record { answer = a; after = tables b numbers f } ≡ stepOn s (tables bodies numbers floats)
-  unfolding stepOn outcome itsContact
-  stepped ec ev et eo eb ef ea = cc
-
 -- what a step is answered: 2, where its contact is not there, else what the step on copies answers
 pub number-of : (s : Step) (t : Tables) → stepOn s t .answer .number
     ≡ (if ltb (s .contact) (rows 45 (t .floats))

@@ -1,22 +1,34 @@
-// A step on the tables, and a list of steps, one by one. A step copies its contact and two
-// velocities out, is judged and worked on the copies, and writes back all of its result or nothing.
+// A step on the tables. It copies its contact and two velocities out, is judged and worked on the copies, and
+// writes back all of its result or nothing.
 use cells::Answer;
-use cells::put_answer;
 use cells::put_impulses;
 use cells::put_velocity;
 use contact::ContactHead;
+use kinds::ContactSolved;
+use kinds::Rule;
+use kinds::over_points;
+use kinds::solve_pair;
+use kinds::warmstart;
+use shape::kind_above;
+use shape::pair_of_one;
 use step::Outcome;
-use step::step;
 use tables::Step;
 use tables::contact_at;
-use tables::step_at;
 use tables::velocity_at;
+use values::finite_vel;
+use values::unwritable;
 use velocity::Vels;
 ghost use mathlib.Core.Path.{_≡_};
-ghost use Rattle.leaves.specs.Floats.{if_then_else_};
-ghost use Rattle.sweep.specs.Sweep.{answered, isRefused, judged, newBodies, newFloats};
-ghost use Rattle.sweep.specs.Sweep.{stepOn, sweep, swept, tables, velsAt};
-ghost use Rattle.sweep.specs.Turn.{Turned};
+ghost use Rattle.rows.specs.Rows.{rows};
+ghost use Rattle.tables.specs.Tables.{contactAt};
+ghost use mathlib.Core.List.{[], _∷_};
+ghost use Rattle.kinds.specs.Kinds.{routine};
+ghost use Rattle.values.specs.Values.{unwritable};
+ghost use Rattle.refusals.specs.Refusals.{_when_};
+ghost use Rattle.step.specs.Step.{firstOr};
+ghost use Rattle.vouched.specs.Vouched.{flaw, triedFlawed};
+ghost use Rattle.sweep.specs.Sweep.{answered, judged, newBodies, newFloats};
+ghost use Rattle.sweep.specs.Sweep.{stepOn, tables, velsAt};
 
 // Copies of the velocities of a contact's bodies.
 fn velocities(bodies: &[f32], head: ContactHead) -> Vels
@@ -74,61 +86,83 @@ fn answered(outcome: Outcome) -> Answer
     }
 }
 
-// One step on the tables.
-pub fn step_on(bodies: &mut [f32], numbers: &[u16], floats: &mut [f32], s: Step) -> Answer
+// What the kind's routine makes of contact k. The contact is read in each arm, so that a kind reads what it uses.
+fn made(numbers: &[u16], floats: &[f32], k: usize, kind: u16, vels: Vels) -> ContactSolved
+    ensures { λ r. ⌜ r ≡ routine kind (contactAt (now (numbers .entry)) (now (floats .entry)) k) vels ⌝ }
+{
+    match kind {
+        0 => warmstart(contact_at(numbers, floats, k), vels),
+        1 => over_points(contact_at(numbers, floats, k), Rule::Normal, vels),
+        2 => over_points(contact_at(numbers, floats, k), Rule::Friction, vels),
+        3 => over_points(contact_at(numbers, floats, k), Rule::Restitution, vels),
+        4 => solve_pair(contact_at(numbers, floats, k), vels),
+        5..=65535 => {
+            let contact = contact_at(numbers, floats, k);
+            ContactSolved {
+                branch: 0,
+                contact,
+                vels,
+            }
+        }
+    }
+}
+
+// What it makes, unless it cannot be written.
+fn worked(numbers: &[u16], floats: &[f32], k: usize, kind: u16, vels: Vels) -> Outcome
+    ensures { λ r. ⌜ r ≡ firstOr (10 when unwritable kind (routine kind (contactAt (now (numbers .entry)) (now (floats .entry)) k) vels) ∷ []) (routine kind (contactAt (now (numbers .entry)) (now (floats .entry)) k) vels) ⌝ }
+{
+    let solved = made(numbers, floats, k, kind, vels);
+    if unwritable(kind, solved) {
+        return Outcome::Refused(10);
+    }
+    Outcome::Done(solved)
+}
+
+// A step on contact k, whose flaw is known.
+fn tried(numbers: &[u16], floats: &[f32], k: usize, kind: u16, vels: Vels, flaw: u16) -> Outcome
+    ensures { λ r. ⌜ r ≡ triedFlawed (contactAt (now (numbers .entry)) (now (floats .entry)) k) kind vels flaw ⌝ }
+{
+    let contact = contact_at(numbers, floats, k);
+    let head = contact.head;
+    let v1 = vels.v1;
+    let v2 = vels.v2;
+    if kind_above(kind) {
+        return Outcome::Refused(3);
+    }
+    if (flaw == 5) | (flaw == 6) {
+        return Outcome::Refused(flaw);
+    }
+    if pair_of_one(kind, head) {
+        return Outcome::Refused(7);
+    }
+    if (flaw == 8) | !finite_vel(v1) | !finite_vel(v2) {
+        return Outcome::Refused(8);
+    }
+    if flaw == 9 {
+        return Outcome::Refused(9);
+    }
+    worked(numbers, floats, k, kind, vels)
+}
+
+// One step on the tables, told what is wrong with its contact. The floor reads as rest and is not written, here and in
+// `velocities`, so nothing more is to be seen to on its side.
+pub fn step_on(
+    bodies: &mut [f32],
+    numbers: &[u16],
+    floats: &mut [f32],
+    s: Step,
+    known: u16,
+) -> Answer
+    requires { ⌜ known ≡ flaw (rows 3 (now bodies)) (contactAt (now numbers) (now floats) (s .contact)) ⌝ }
     ensures { λ r. ⌜ record { answer = r; after = tables (now (bodies .exit)) (now (numbers .entry)) (now (floats .exit)) } ≡ stepOn s (tables (now (bodies .entry)) (now (numbers .entry)) (now (floats .entry))) ⌝ }
 {
-    let contact = contact_at(numbers, floats, s.contact as usize);
+    let k = s.contact as usize;
+    let contact = contact_at(numbers, floats, k);
     let head = contact.head;
     let vels = velocities(bodies, head);
-    let tried = step(contact, s.kind, vels, bodies.len() / 3);
+    let tried = tried(numbers, floats, k, s.kind, vels, known);
     let outcome = judged(floats.len() / 45, s, tried);
     write_bodies(bodies, head, outcome);
     write_floats(floats, s, outcome);
     answered(outcome)
-}
-
-// Step i of the list: done on the tables, its answer laid into row i of the room.
-fn turn(
-    bodies: &mut [f32],
-    numbers: &[u16],
-    floats: &mut [f32],
-    steps: &[u16],
-    room: &mut [u16],
-    i: usize,
-) -> Answer
-    ensures { λ r. ⌜ Turned (now (steps .entry)) i (tables (now (bodies .entry)) (now (numbers .entry)) (now (floats .entry))) (now (room .entry)) r (tables (now (bodies .exit)) (now (numbers .entry)) (now (floats .exit))) (now (room .exit)) ⌝ }
-{
-    let s = step_at(steps, i);
-    let answer = step_on(bodies, numbers, floats, s);
-    put_answer(room, i, answer);
-    answer
-}
-
-// 1 for a refusal, else 0.
-fn refusal(answer: Answer) -> usize
-    ensures { λ r. ⌜ r ≡ (if isRefused answer then 1 else 0) ⌝ }
-{
-    if answer.number == 0 { 0 } else { 1 }
-}
-
-// The first n steps of the list, one by one; a refused step does not stop it. How many were refused.
-pub fn sweep(
-    bodies: &mut [f32],
-    numbers: &[u16],
-    floats: &mut [f32],
-    steps: &[u16],
-    room: &mut [u16],
-    n: usize,
-) -> usize
-    ensures { λ r. ⌜ swept (tables (now (bodies .exit)) (now (numbers .entry)) (now (floats .exit))) (now (room .exit)) r ≡ sweep (now (steps .entry)) n (tables (now (bodies .entry)) (now (numbers .entry)) (now (floats .entry))) (now (room .entry)) ⌝ }
-{
-    let mut i = 0;
-    let mut refused = 0;
-    while i < n {
-        let answer = turn(bodies, numbers, floats, steps, room, i);
-        refused += refusal(answer);
-        i += 1;
-    }
-    refused
 }

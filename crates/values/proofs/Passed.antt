@@ -3,7 +3,7 @@ use Prim.Native.Nat.{ℕ}
 use mathlib.Core.Path.{_≡_, refl, sym, ap, _∙_}
 use mathlib.Core.Bool.{Bool, true, false, not, _&&_, _||_}
 use lib.Dec.{ltb}
-use Rattle.leaves.proofs.Pick.{never}
+use Rattle.leaves.proofs.Said.{all-l, all-r, none-l, none-r, so}
 use Rattle.leaves.specs.Finite.{finite}
 use Rattle.velocity.specs.declared.SolverVel.{SolverVel}
 use Rattle.velocity.specs.declared.Vels.{Vels}
@@ -19,30 +19,9 @@ use Rattle.contact.specs.declared.ContactPoint.{ContactPoint}
 use Rattle.kinds.specs.declared.ContactSolved.{ContactSolved}
 use Rattle.values.specs.Values.{belowCount, finiteHead, finiteNormal, finitePoint, finiteTangent, finiteVel, lostImpulse, lostVel, notFinite, somePoint, unwritable}
 
--- tests that fail, and tests that pass, taken apart
-none-l : (p q : Bool) → (p || q) ≡ false → p ≡ false
-none-l true q e = e
-none-l false q e = refl
-
-none-r : (p q : Bool) → (p || q) ≡ false → q ≡ false
-none-r true q e = never e
-none-r false q e = e
-
-all-l : (p q : Bool) → (p && q) ≡ true → p ≡ true
-all-l true q e = refl
-all-l false q e = e
-
-all-r : (p q : Bool) → (p && q) ≡ true → q ≡ true
-all-r true q e = e
-all-r false q e = never (sym e)
-
-holds : (p : Bool) → not p ≡ false → p ≡ true
-holds true e = refl
-holds false e = never e
-
 -- a test that holds at no point below count
 module _ (test : ContactPoint → Bool) (c : Contact) where
-  not-at : somePoint test c ≡ false → (x : Place) → ltb (number x) (c .head .count) ≡ true → test (point x c) ≡ false
+  pub not-at : somePoint test c ≡ false → (x : Place) → ltb (number x) (c .head .count) ≡ true → test (point x c) ≡ false
   unfolding belowCount
   not-at e at-a below = none-l (test (c .a)) (ltb 1 (c .head .count) && test (c .b)) (rw below at e)
   not-at e at-b below = none-r (ltb 0 (c .head .count) && test (c .a)) (test (c .b)) (rw below at e)
@@ -55,7 +34,7 @@ inner false false a r e = e
 
 -- 8: the impulses of a finite point are finite
 module _ (p : ContactPoint) (f : finitePoint p ≡ true) where
-  normal-finite : finite (p .«normal_part» .impulse) ≡ true
+  pub normal-finite : finite (p .«normal_part» .impulse) ≡ true
   unfolding finitePoint finiteNormal
   normal-finite =
       let n = p .«normal_part» in
@@ -64,7 +43,7 @@ module _ (p : ContactPoint) (f : finitePoint p ≡ true) where
       inner x (finite (n .impulse)) (finite (n .«impulse_accumulator»)) (finite (n .r))
       (all-l part (finite (n .«cfm_factor»)) (all-l (part && finite (n .«cfm_factor»)) (finite (n .seed)) (all-l (finiteNormal n) (finiteTangent (p .«tangent_part»)) f)))
 
-  tangent-finite : finite (p .«tangent_part» .impulse) ≡ true
+  pub tangent-finite : finite (p .«tangent_part» .impulse) ≡ true
   unfolding finitePoint finiteTangent
   tangent-finite =
       let t = p .«tangent_part» in
@@ -81,11 +60,11 @@ module _ (p q : ContactPoint) (f : finitePoint p ≡ true) where
 
   -- stored and found finite, or the old one
   normal-tame : (n t : Bool) → q ≡ storedAt n t p q → (n && not new-normal) ≡ false → new-normal ≡ true
-  normal-tame true t e kept = holds new-normal kept
+  normal-tame true t e kept = so new-normal kept
   normal-tame false t e kept = ap (λ (x : ContactConstraintNormalPart). finite (x .impulse)) (same-normal p q t e) ∙ normal-finite p f
 
   tangent-tame : (n t : Bool) → q ≡ storedAt n t p q → (t && not new-tangent) ≡ false → new-tangent ≡ true
-  tangent-tame n true e kept = holds new-tangent kept
+  tangent-tame n true e kept = so new-tangent kept
   tangent-tame n false e kept = ap (λ (x : ContactConstraintTangentPart). finite (x .impulse)) (same-tangent p q n e) ∙ tangent-finite p f
 
   tame : (kind : ℕ) → q ≡ storedAt (presses kind) (rubs kind) p q → lostImpulse kind q ≡ false → (new-normal ≡ true) × (new-tangent ≡ true)
@@ -103,19 +82,19 @@ module _ (c : Contact) (v : Vels) (passed : notFinite c v ≡ false) where
   abbrev wrong-points : Bool
   wrong-points = somePoint (λ p. not (finitePoint p)) c
 
-  points-finite : wrong-points ≡ false
+  pub points-finite : wrong-points ≡ false
   unfolding notFinite
   points-finite =
       none-r wrong-head wrong-points
       (none-l (wrong-head || wrong-points) (not (finiteVel (v .v1)))
       (none-l (wrong-head || wrong-points || not (finiteVel (v .v1))) (not (finiteVel (v .v2))) passed))
 
-  point-finite : (x : Place) → ltb (number x) (c .head .count) ≡ true → finitePoint (point x c) ≡ true
-  point-finite x below = holds (finitePoint (point x c)) (not-at (λ p. not (finitePoint p)) c points-finite x below)
+  pub point-finite : (x : Place) → ltb (number x) (c .head .count) ≡ true → finitePoint (point x c) ≡ true
+  point-finite x below = so (finitePoint (point x c)) (not-at (λ p. not (finitePoint p)) c points-finite x below)
 
 -- 10: a velocity of a real body that is not lost is finite
 real-finite : (body : ℕ) (v : SolverVel) → lostVel body v ≡ false → isFloor body ≡ false → finiteVel v ≡ true
-real-finite body v kept real = holds (finiteVel v) (rw real at kept)
+real-finite body v kept real = so (finiteVel v) (rw real at kept)
 
 -- 10: what is to be written is finite
 module _ (kind : ℕ) (s : ContactSolved) (passed : unwritable kind s ≡ false) where

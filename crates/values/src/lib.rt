@@ -12,9 +12,12 @@ use tangent::ContactConstraintTangentPart;
 use velocity::SolverVel;
 use velocity::Vels;
 ghost use mathlib.Core.Path.{_≡_};
+ghost use mathlib.Core.Bool.{not, _&&_};
+ghost use lib.Dec.{ltb};
+ghost use Rattle.leaves.specs.Finite.{finite};
 ghost use Rattle.values.specs.Values.{belowCount, finiteHead, finiteNormal, finitePoint};
 ghost use Rattle.values.specs.Values.{finiteTangent, finiteVel, floorMoves, headOut};
-ghost use Rattle.values.specs.Values.{lostImpulse, notFinite, outOfRange, pointOut, unwritable};
+ghost use Rattle.values.specs.Values.{lostImpulse, lostVel, notFinite, outOfRange, pointOut, unwritable};
 
 // Whether a test holds at a point below count, given whether it holds at a and at b.
 fn below_count(head: ContactHead, at_a: bool, at_b: bool) -> bool
@@ -23,7 +26,8 @@ fn below_count(head: ContactHead, at_a: bool, at_b: bool) -> bool
     ((0 < head.count) & at_a) | ((1 < head.count) & at_b)
 }
 
-fn finite_vel(v: SolverVel) -> bool
+// 8, of one velocity: all its numbers are finite.
+pub fn finite_vel(v: SolverVel) -> bool
     ensures { λ r. ⌜ r ≡ finiteVel v ⌝ }
 {
     is_finite(v.linear.x) & is_finite(v.linear.y) & is_finite(v.angular)
@@ -143,6 +147,17 @@ pub fn out_of_range(contact: Contact) -> bool
     head_out(head) | below_count(head, point_out(head, a), point_out(head, b))
 }
 
+// An impulse that is stored is not finite. Here and below the tests come one after the other, and not all at once: this
+// is the path of every step that is done.
+fn lost_if(stored: bool, impulse: f32) -> bool
+    ensures { λ r. ⌜ r ≡ (stored && not (finite impulse)) ⌝ }
+{
+    if stored {
+        return !is_finite(impulse);
+    }
+    false
+}
+
 // An impulse that the kind writes is not finite.
 fn lost_impulse(kind: u16, point: ContactPoint) -> bool
     ensures { λ r. ⌜ r ≡ lostImpulse kind point ⌝ }
@@ -150,8 +165,30 @@ fn lost_impulse(kind: u16, point: ContactPoint) -> bool
     let normal_part = point.normal_part;
     let tangent_part = point.tangent_part;
     let presses = (kind == 1) | (kind == 3) | (kind == 4);
-    let rubs = kind == 2;
-    (presses & !is_finite(normal_part.impulse)) | (rubs & !is_finite(tangent_part.impulse))
+    if lost_if(presses, normal_part.impulse) {
+        return true;
+    }
+    lost_if(kind == 2, tangent_part.impulse)
+}
+
+// The same at a place, if it is below count.
+fn lost_at(kind: u16, place: u16, count: u16, point: ContactPoint) -> bool
+    ensures { λ r. ⌜ r ≡ (ltb place count && lostImpulse kind point) ⌝ }
+{
+    if place < count {
+        return lost_impulse(kind, point);
+    }
+    false
+}
+
+// A velocity of a real body is not finite.
+fn lost_vel(body: u16, v: SolverVel) -> bool
+    ensures { λ r. ⌜ r ≡ lostVel body v ⌝ }
+{
+    if body == FLOOR {
+        return false;
+    }
+    !finite_vel(v)
 }
 
 // 10: what the routine made cannot be written.
@@ -160,12 +197,20 @@ pub fn unwritable(kind: u16, solved: ContactSolved) -> bool
 {
     let contact = solved.contact;
     let head = contact.head;
-    let a = contact.a;
-    let b = contact.b;
+    let count = head.count;
     let vels = solved.vels;
     let v1 = vels.v1;
     let v2 = vels.v2;
-    let lost1 = (head.body1 != FLOOR) & !finite_vel(v1);
-    let lost2 = (head.body2 != FLOOR) & !finite_vel(v2);
-    lost1 | lost2 | below_count(head, lost_impulse(kind, a), lost_impulse(kind, b))
+    let a = contact.a;
+    let b = contact.b;
+    if lost_vel(head.body1, v1) {
+        return true;
+    }
+    if lost_vel(head.body2, v2) {
+        return true;
+    }
+    if lost_at(kind, 0, count, a) {
+        return true;
+    }
+    lost_at(kind, 1, count, b)
 }

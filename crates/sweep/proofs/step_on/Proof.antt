@@ -1,11 +1,12 @@
 -- `sweep::step_on` meets its contract. By what its calls ensure. Assumes nothing.
-use Rattle.sweep.proofs.Steps.{stepped}
+use Rattle.sweep.proofs.AsRead.{stepped}
 use borrow.Author.Needs.{needs}
 use Rattle.sweep.proofs.step_on.Statement.{statement}
 use Rattle.sweep.proofs.step_on.Tie as tie
+use Rattle.sweep.proofs.step_on.Reads as reads
 
-cast-contact-at : tie.Need-cast-contact-at
-cast-contact-at c = search needs
+cast-k : tie.Need-cast-k
+cast-k c = search needs
 
 contact-at-requires : tie.Need-contact-at-requires
 contact-at-requires c κs = search needs
@@ -13,8 +14,8 @@ contact-at-requires c κs = search needs
 velocities-requires : tie.Need-velocities-requires
 velocities-requires c κs = search needs
 
-step-requires : tie.Need-step-requires
-step-requires c κs = search needs
+tried-requires : tie.Need-tried-requires
+tried-requires c κs = search needs
 
 judged-requires : tie.Need-judged-requires
 judged-requires c κs = search needs
@@ -35,16 +36,16 @@ same-length-2 : tie.Need-same-length-2
 same-length-2 c = search needs
 
 returns : tie.Need-returns
-returns c = search stepped
+returns c = stepped _ _ _ _ ((c .before .before .before .before .before .before .before .before .before .before .before .before .before .before .before .before .before .before .before .before .before .pre)) ((c .before .before .before .before .before .before .before .before .before .before .before .before .before .before .before .contact-at .ensures)) ((c .before .before .before .before .before .before .before .before .before .before .before .before .velocities .ensures)) ((c .before .before .before .before .before .before .before .before .before .before .tried .ensures)) ((c .before .before .before .before .before .before .before .before .before .judged .ensures)) ((c .before .before .before .before .before .before .before .write-bodies .ensures)) ((c .before .before .before .write-floats .ensures)) ((c .answered .ensures))
 
 pub step-on-spec : {M : Type 1} → statement M
 step-on-spec =
     tie.close
     (tie.spec
-    cast-contact-at
+    cast-k
     contact-at-requires
     velocities-requires
-    step-requires
+    tried-requires
     judged-requires
     write-bodies-requires
     write-floats-requires

@@ -1,10 +1,10 @@
--- `sweep::refusal` meets its contract. By the number. Assumes nothing.
+-- `walk::refusal` meets its contract. By the number. Assumes nothing.
 use mathlib.Core.Bool.{not}
 use mathlib.Core.Path.{ap, refl}
 use borrow.Author.Tests.{eq-eqb, ne-eqb}
 use Rattle.leaves.proofs.Pick.{take, pass}
-use Rattle.sweep.proofs.refusal.Statement.{statement}
-use Rattle.sweep.proofs.refusal.Tie as tie
+use Rattle.walk.proofs.refusal.Statement.{statement}
+use Rattle.walk.proofs.refusal.Tie as tie
 
 returns : tie.Need-returns
 returns c = pass 1 (ap not (eq-eqb _ _ (c .if1 .taken))) refl

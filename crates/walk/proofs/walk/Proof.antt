@@ -1,22 +1,25 @@
--- `sweep::sweep` meets its contract. After i steps the tables, the room and the count are those of the first i steps. Assumes nothing.
+-- `walk::walk` meets its contract. After i steps the tables, the room and the count are those of the first i steps, and the flags are right. Assumes nothing.
 use Prim.Native.Nat.{_-_}
 use native.Mathlib.Omega.{arith}
 use borrow.Author.Needs.{needs}
-use Rattle.sweep.proofs.Going.{Going, count-fits, go-on, gone, start-going}
-use Rattle.sweep.proofs.sweep.Statement.{statement}
-use Rattle.sweep.proofs.sweep.Tie as tie
+use Rattle.walk.proofs.Going.{Going, count-fits, go-on, gone, start-going, still-right}
+use Rattle.walk.proofs.walk.Statement.{statement}
+use Rattle.walk.proofs.walk.Tie as tie
+use Rattle.walk.proofs.walk.Reads as reads
 
 abbrev Inv-loop : tie.InvT-loop
-Inv-loop bodies₀ numbers floats₀ steps room₀ n i₀ refused₀ bodies floats room i refused = Going steps n bodies₀ numbers floats₀ room₀ bodies floats room i refused
+Inv-loop bodies₀ numbers floats₀ steps room₀ flags₀ n i₀ refused₀ bodies floats room flags i refused =
+    Going steps n bodies₀ numbers floats₀ room₀ flags₀ bodies floats room flags i refused
 
 abbrev μ-loop : tie.MeasureT-loop
-μ-loop bodies₀ numbers floats₀ steps room₀ n i₀ refused₀ bodies floats room i refused = n - i
+μ-loop bodies₀ numbers floats₀ steps room₀ flags₀ n i₀ refused₀ bodies floats room flags i refused =
+    n - i
 
 loop-holds : tie.Need-loop-holds Inv-loop μ-loop
-loop-holds c = start-going _ _ _ _ _ _
+loop-holds c = start-going _ _ _ _ _ _ _ ((c .before .before .before .before .before .before .pre))
 
 turn-requires : tie.Need-turn-requires Inv-loop μ-loop
-turn-requires c κs = search needs
+turn-requires c κs = search still-right
 
 refusal-requires : tie.Need-refusal-requires Inv-loop μ-loop
 refusal-requires c κs = search needs
@@ -42,11 +45,14 @@ same-length-2 c = search needs
 same-length-3 : tie.Need-same-length-3 Inv-loop μ-loop
 same-length-3 c = search needs
 
+same-length-4 : tie.Need-same-length-4 Inv-loop μ-loop
+same-length-4 c = search needs
+
 returns : tie.Need-returns Inv-loop μ-loop
 returns c = search gone
 
-pub sweep-spec : {M : Type 1} → statement M
-sweep-spec =
+pub walk-spec : {M : Type 1} → statement M
+walk-spec =
     tie.close
     (tie.spec
     Inv-loop
@@ -61,4 +67,5 @@ sweep-spec =
     same-length
     same-length-2
     same-length-3
+    same-length-4
     returns)

@@ -1,0 +1,64 @@
+-- `walk::turn` meets its contract. By what its calls ensure. Assumes nothing.
+use Rattle.walk.proofs.Flags.{flags-right}
+use Rattle.walk.proofs.Going.{turned}
+use borrow.Author.Needs.{needs}
+use Rattle.walk.proofs.turn.Statement.{statement}
+use Rattle.walk.proofs.turn.Tie as tie
+use Rattle.walk.proofs.turn.Reads as reads
+
+step-at-requires : tie.Need-step-at-requires
+step-at-requires c κs = search needs
+
+cast-k : tie.Need-cast-k
+cast-k c = search needs
+
+known-requires : tie.Need-known-requires
+known-requires c κs = (c .before .before .before .before .before .before .before .before .before .before .before .pre)
+
+step-on-requires : tie.Need-step-on-requires
+step-on-requires c κs = ((c .before .before .known .ensures))
+
+put-answer-requires : tie.Need-put-answer-requires
+put-answer-requires c κs = search needs
+
+contact-at-requires : tie.Need-contact-at-requires
+contact-at-requires c κs = search needs
+
+pressing-requires : tie.Need-pressing-requires
+pressing-requires c κs = search needs
+
+raise-requires : tie.Need-raise-requires
+raise-requires c κs = search needs
+
+same-length : tie.Need-same-length
+same-length c = search needs
+
+same-length-2 : tie.Need-same-length-2
+same-length-2 c = search needs
+
+same-length-3 : tie.Need-same-length-3
+same-length-3 c = search needs
+
+same-length-4 : tie.Need-same-length-4
+same-length-4 c = search needs
+
+returns : tie.Need-returns
+returns c = (turned _ _ _ _ ((c .before .before .before .before .before .before .before .before .before .before .before .before .before .before .before .before .before .before .before .before .before .before .before .step-at .ensures)) ((c .before .before .before .before .before .before .before .before .before .before .before .before .before .before .before .step-on .ensures)) ((c .before .before .before .before .before .before .before .before .before .put-answer .ensures)), flags-right _ _ _ ((c .before .before .before .before .before .before .before .before .before .before .before .before .before .before .before .before .before .before .before .before .before .before .before .before .before .before .before .before .before .before .pre)) ((c .before .before .before .before .before .before .before .before .before .before .before .before .before .before .before .before .before .before .known .ensures)) ((c .before .before .before .before .before .before .before .before .before .before .before .before .before .before .before .step-on .ensures)) ((c .before .before .before .before .before .contact-at .ensures)) ((c .before .before .before .before .pressing .ensures)) ((c .before .before .raise .ensures)))
+
+pub turn-spec : {M : Type 1} → statement M
+turn-spec =
+    tie.close
+    (tie.spec
+    step-at-requires
+    cast-k
+    known-requires
+    step-on-requires
+    put-answer-requires
+    contact-at-requires
+    pressing-requires
+    raise-requires
+    same-length
+    same-length-2
+    same-length-3
+    same-length-4
+    returns)
