@@ -72,7 +72,8 @@ pub fn call(
     // of an empty slice, and every element has a value. A slice that is lent by `&mut` overlaps none of the others, and
     // no other thread sees it; the two that are lent by `&` are only read, and nobody writes them as long as they are
     // lent. `done` and `refused` are two variables of this function. Rust's own arithmetic, too, stands on the default
-    // rounding with subnormals kept, so a program that leaves these has broken Rust's rules before it comes here.
+    // rounding with subnormals kept, so a program that leaves these has broken Rust's rules before it comes here. A stack
+    // that is too small ends the program at its guard page, as in any Rust function.
     let number = unsafe {
         romaludiv_call(
             bodies.as_mut_ptr(),
