@@ -23,6 +23,7 @@ oracle compare NIGHT OURS   holds an answer to the oracle's
 oracle folder DIR           the same for every NAME.txt and NAME.ours of a folder; the last line is 'N passed, M failed'
 oracle nights N SEED DIR    writes N good nights and tells what is in them
 oracle steps N SEED DIR     the same, until they have N steps
+oracle apart N SEED DIR     the same, of nights in which every step's result shows by itself
 oracle vectors DIR          writes the kept vectors
 oracle wrong DIR            which wrong orders the vectors of a folder would show";
 
@@ -33,8 +34,11 @@ fn main() -> ExitCode {
         ["answer"] => answer(),
         ["compare", night, ours] => compare_one(night, ours),
         ["folder", dir] => compare_folder(Path::new(dir)),
-        ["nights", n, seed, dir] => write_nights(n, seed, Path::new(dir), |nights, _| nights),
-        ["steps", n, seed, dir] => write_nights(n, seed, Path::new(dir), |_, steps| steps),
+        ["nights", n, seed, dir] => write_nights(n, seed, Path::new(dir), |nights, _| nights, |_| true),
+        ["steps", n, seed, dir] => write_nights(n, seed, Path::new(dir), |_, steps| steps, |_| true),
+        ["apart", n, seed, dir] => {
+            write_nights(n, seed, Path::new(dir), |_, steps| steps, |number| !nights::is_chain(number))
+        }
         ["vectors", dir] => vectors::write(Path::new(dir)).map(|()| true).map_err(|error| error.to_string()),
         ["wrong", dir] => vectors::tell(Path::new(dir)).map(|()| true),
         _ => Err(format!("use:\n{USAGE}")),
@@ -89,15 +93,24 @@ fn compare_folder(dir: &Path) -> Result<bool, String> {
     Ok(counts.failed == 0)
 }
 
-/// Writes nights until `of` them, or of their steps, there are N.
-fn write_nights(n: &str, seed: &str, dir: &Path, of: fn(usize, usize) -> usize) -> Result<bool, String> {
+/// Writes nights of wanted numbers until `of` them, or of their steps, there are N.
+fn write_nights(
+    n: &str,
+    seed: &str,
+    dir: &Path,
+    of: fn(usize, usize) -> usize,
+    wanted: fn(u64) -> bool,
+) -> Result<bool, String> {
     let n: usize = n.parse().map_err(|_| "N is a number")?;
     let seed: u64 = seed.parse().map_err(|_| "SEED is a number")?;
     fs::create_dir_all(dir).map_err(|error| error.to_string())?;
     let (mut counts, mut nights, mut steps) = (Counts::default(), 0, 0);
-    while of(nights, steps) < n {
-        let made = nights::night(seed, nights as u64);
-        let path = dir.join(format!("{nights:06}.txt"));
+    for number in (0..).filter(|&number| wanted(number)) {
+        if of(nights, steps) >= n {
+            break;
+        }
+        let made = nights::night(seed, number);
+        let path = dir.join(format!("{number:06}.txt"));
         let text = night::text(&made);
         fs::write(&path, &text).map_err(|error| error.to_string())?;
         nights += 1;

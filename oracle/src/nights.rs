@@ -6,10 +6,15 @@ use crate::night::{Night, Row, normal_at, tangent_at};
 use crate::rng::Rng;
 use crate::values::{LIKES, Like};
 
+/// Whether the night of this number is a chain.
+pub fn is_chain(number: u64) -> bool {
+    number.is_multiple_of(3)
+}
+
 /// The night of this number of a seed.
 pub fn night(seed: u64, number: u64) -> Night {
     let mut rng = Rng::new(seed.wrapping_mul(1_000_003).wrapping_add(number));
-    let mut night = if number.is_multiple_of(3) { chain(&mut rng) } else { apart(&mut rng) };
+    let mut night = if is_chain(number) { chain(&mut rng) } else { apart(&mut rng) };
     if rng.percent(1) {
         let steps = night.steps.len();
         let at = rng.below(steps);

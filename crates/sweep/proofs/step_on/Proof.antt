@@ -36,7 +36,16 @@ same-length-2 : tie.Need-same-length-2
 same-length-2 c = search needs
 
 returns : tie.Need-returns
-returns c = stepped _ _ _ _ ((c .before .before .before .before .before .before .before .before .before .before .before .before .before .before .before .before .before .before .before .before .before .pre)) ((c .before .before .before .before .before .before .before .before .before .before .before .before .before .before .before .contact-at .ensures)) ((c .before .before .before .before .before .before .before .before .before .before .before .before .velocities .ensures)) ((c .before .before .before .before .before .before .before .before .before .before .tried .ensures)) ((c .before .before .before .before .before .before .before .before .before .judged .ensures)) ((c .before .before .before .before .before .before .before .write-bodies .ensures)) ((c .before .before .before .write-floats .ensures)) ((c .answered .ensures))
+returns c =
+    let impulses = c .before .before .before in
+    let velocities = impulses .before .before .before .before in
+    let judged = velocities .before .before in
+    let worked = judged .before in
+    let moving = worked .before .before in
+    let read = moving .before .before .before in
+    let start = read .before .before .before .before .before .before in
+    stepped _ _ _ _ (start .pre) (read .contact-at .ensures) (moving .velocities .ensures) (worked .tried .ensures) (judged .judged .ensures)
+    (velocities .write-bodies .ensures) (impulses .write-floats .ensures) (c .answered .ensures)
 
 pub step-on-spec : {M : Type 1} → statement M
 step-on-spec =

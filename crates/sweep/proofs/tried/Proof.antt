@@ -51,12 +51,23 @@ worked-requires c κs = search needs
 
 returns-6 : tie.Need-returns-6
 unfolding triedFlawed
-returns-6 c = let given = ((c .before .before .before .before .before .before .before .before .before .before .before .before .before .before .before .before .args)) in
-    miss _ _ _ ((c .before .before .before .before .before .before .before .before .before .kind-above .ensures)) ((c .before .before .before .before .before .before .before .before .if1 .left))
-    (miss _ _ _ refl ((c .before .before .before .before .before .before .before .if2 .left))
-    (miss _ _ _ (as-pair _ ((c .before .before .before .before .before .before .before .before .before .before .before .before .before .contact-at .ensures)) ((c .before .before .before .before .before .before .pair-of-one .ensures))) ((c .before .before .before .before .before .if3 .left))
-    (miss _ _ _ (one-lost (eqb (given .flaw) 8) (given .vels .v1) (given .vels .v2) ((c .before .before .before .before .finite-vel .ensures)) ((c .before .before .before .finite-vel2 .ensures))) ((c .before .before .if4 .left))
-    (miss 9 _ _ refl (ne-eqb _ _ ((c .before .if5 .left))) ((c .worked .ensures))))))
+returns-6 c =
+    let at-nine = c .before in
+    let at-eight = at-nine .before in
+    let second = at-eight .before in
+    let first = second .before in
+    let at-seven = first .before in
+    let paired = at-seven .before in
+    let at-five = paired .before in
+    let at-three = at-five .before in
+    let kinded = at-three .before in
+    let read = kinded .before .before .before .before in
+    let given = read .before .before .before .args in
+    miss _ _ _ (kinded .kind-above .ensures) (at-three .if1 .left)
+    (miss _ _ _ refl (at-five .if2 .left)
+    (miss _ _ _ (as-pair _ (read .contact-at .ensures) (paired .pair-of-one .ensures)) (at-seven .if3 .left)
+    (miss _ _ _ (one-lost (eqb (given .flaw) 8) (given .vels .v1) (given .vels .v2) (first .finite-vel .ensures) (second .finite-vel2 .ensures)) (at-eight .if4 .left)
+    (miss 9 _ _ refl (ne-eqb _ _ (at-nine .if5 .left)) (c .worked .ensures)))))
 
 pub tried-spec : {M : Type 1} → statement M
 tried-spec =

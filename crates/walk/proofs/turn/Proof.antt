@@ -43,7 +43,18 @@ same-length-4 : tie.Need-same-length-4
 same-length-4 c = search needs
 
 returns : tie.Need-returns
-returns c = (turned _ _ _ _ ((c .before .before .before .before .before .before .before .before .before .before .before .before .before .before .before .before .before .before .before .before .before .before .before .step-at .ensures)) ((c .before .before .before .before .before .before .before .before .before .before .before .before .before .before .before .step-on .ensures)) ((c .before .before .before .before .before .before .before .before .before .put-answer .ensures)), flags-right _ _ _ ((c .before .before .before .before .before .before .before .before .before .before .before .before .before .before .before .before .before .before .before .before .before .before .before .before .before .before .before .before .before .before .pre)) ((c .before .before .before .before .before .before .before .before .before .before .before .before .before .before .before .before .before .before .known .ensures)) ((c .before .before .before .before .before .before .before .before .before .before .before .before .before .before .before .step-on .ensures)) ((c .before .before .before .before .before .contact-at .ensures)) ((c .before .before .before .before .pressing .ensures)) ((c .before .before .raise .ensures)))
+returns c =
+    let put = c .before .before in
+    let pressed = put .before .before in
+    let read = pressed .before in
+    let told = read .before .before .before .before in
+    let done = told .before .before .before .before .before .before in
+    let found = done .before .before .before in
+    let given = found .before .before .before .before .before in
+    let start = given .before .before .before .before .before .before .before in (
+      turned _ _ _ _ (given .step-at .ensures) (done .step-on .ensures) (told .put-answer .ensures),
+      flags-right _ _ _ (start .pre) (found .known .ensures) (done .step-on .ensures) (read .contact-at .ensures) (pressed .pressing .ensures) (put .raise .ensures),
+    )
 
 pub turn-spec : {M : Type 1} → statement M
 turn-spec =
