@@ -47,9 +47,9 @@ then {o} {x} {o1} {y} {o2} {at} {r1} {r2} p q =
 pub nothing : (o : List ℕ) (at : ℕ) → at ≤ length o → Wrote o at [] o at
 nothing o at h = record { bytes = refl; place = omega arith }
 
--- one byte, where there is room and where not
+-- one byte, where there is room; bytes, where there is none
 pub one : (o : List ℕ) (at b : ℕ) → at < length o → Wrote o at (b ∷ []) (set o at b) (at + 1)
 one o at b h = record { bytes = refl; place = omega arith }
 
-pub no-room : (o : List ℕ) (at b : ℕ) → length o ≤ at → Wrote o at (b ∷ []) o (length o)
-no-room o at b h = record { bytes = sym (set-out o at b h); place = omega arith }
+pub no-room : (o : List ℕ) (at : ℕ) (w : List ℕ) → length o ≤ at → Wrote o at w o (length o)
+no-room o at w h = record { bytes = sym (sets-out o at w h); place = omega arith }

@@ -53,10 +53,15 @@ module _ {o o2 : List ℕ} {at r2 : ℕ} (n k : ℕ) (more : k ≡ 0 → ⊥) wh
       → Wrote o at (hexDigits k n) o2 r2
   put-hex v w = rw (some k more, ← hex-more (k - 1) n) (then v w)
 
+-- a number by itself
+pub dec-alone : {o o1 : List ℕ} {at r : ℕ} (n : ℕ) → Wrote o at (decDigits 20 n) o1 r → Wrote o at (decBytes n) o1 r
+unfolding decBytes
+dec-alone n w = w
+
 -- fields
 module _ {o o1 o2 : List ℕ} {at r1 r2 : ℕ} (n : ℕ) (tab : Wrote o at (9 ∷ []) o1 r1) where
-  pub dec-after : Wrote o1 r1 (decDigits 20 n) o2 r2 → Wrote o at (decField n) o2 r2
-  unfolding decField decBytes
+  pub dec-after : Wrote o1 r1 (decBytes n) o2 r2 → Wrote o at (decField n) o2 r2
+  unfolding decField
   dec-after w = then tab w
 
   pub hex-after : Wrote o1 r1 (hexDigits 8 n) o2 r2 → Wrote o at (hexField n) o2 r2

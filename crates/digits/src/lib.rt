@@ -4,7 +4,7 @@ ghost use mathlib.Core.Path.{_≡_};
 ghost use mathlib.Core.List.{[], _∷_};
 ghost use Prim.Native.Nat.{_≤_, _<_};
 ghost use lib.ListN.{length};
-ghost use Rattle.digits.specs.Digits.{digitOf, numberFrom, hexOf, decOf, decDigits, hexDigits, decField, hexField};
+ghost use Rattle.digits.specs.Digits.{digitOf, numberFrom, hexOf, decOf, decBytes, decDigits, hexDigits, decField, hexField};
 ghost use Rattle.digits.specs.Digits.{glyph as Digits·glyph};
 ghost use Rattle.digits.specs.Bits.{valueOf, printed};
 ghost use Rattle.digits.specs.Wrote.{Wrote};
@@ -149,12 +149,22 @@ fn put_hexes(out: &mut [u8], at: usize, n: u64, k: usize) -> usize
     put_digit(out, mid, n % 16)
 }
 
+// A decimal number.
+pub fn dec_number(out: &mut [u8], at: usize, n: u64) -> usize
+    ensures { λ r. ⌜ Wrote (now (out .entry)) at (decBytes n) (now (out .exit)) r ⌝ }
+{
+    if out.len() <= at {
+        return out.len();
+    }
+    put_digits(out, at, n, 20)
+}
+
 // A tab and a decimal number.
 pub fn dec_field(out: &mut [u8], at: usize, n: u64) -> usize
     ensures { λ r. ⌜ Wrote (now (out .entry)) at (decField n) (now (out .exit)) r ⌝ }
 {
     let start = put(&mut *out, at, 9);
-    put_digits(out, start, n, 20)
+    dec_number(out, start, n)
 }
 
 // A tab and eight hex digits.

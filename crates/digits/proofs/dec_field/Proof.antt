@@ -1,4 +1,4 @@
--- `digits::dec_field` meets its contract. The tab, then the digits. Assumes nothing.
+-- `digits::dec_field` meets its contract. The tab, then the number. Assumes nothing.
 use Rattle.digits.proofs.Written.{dec-after}
 use borrow.Author.Needs.{needs}
 use Rattle.digits.proofs.dec_field.Statement.{statement}
@@ -7,8 +7,8 @@ use Rattle.digits.proofs.dec_field.Tie as tie
 put-requires : tie.Need-put-requires
 put-requires c κs = search needs
 
-put-digits-requires : tie.Need-put-digits-requires
-put-digits-requires c κs = search needs
+dec-number-requires : tie.Need-dec-number-requires
+dec-number-requires c κs = search needs
 
 same-length : tie.Need-same-length
 same-length c = search needs
@@ -17,4 +17,4 @@ returns : tie.Need-returns
 returns c = search dec-after
 
 pub dec-field-spec : {M : Type 1} → statement M
-dec-field-spec = tie.close (tie.spec put-requires put-digits-requires same-length returns)
+dec-field-spec = tie.close (tie.spec put-requires dec-number-requires same-length returns)

@@ -1,0 +1,4 @@
+pub mod Online
+pub mod Bytes
+pub mod Portions
+pub mod Examples

@@ -1,0 +1,4 @@
+pub mod Judged
+pub mod Going
+pub mod Portions
+pub mod Examples

@@ -1,0 +1,9 @@
+pub mod Cases
+pub mod Holding
+pub mod WhatLine
+pub mod InputEnd
+pub mod LineEnd
+pub mod GoingOn
+pub mod Fed
+pub mod Finished
+pub mod Replayed

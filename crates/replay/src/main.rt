@@ -1,0 +1,97 @@
+// The replay of recorded nights: a file of days on standard input, a line for each day on standard output. All that it
+// says stands in the crate judge; here are the buffers, the reading in portions of at most 1,024 bytes, and what is said
+// on standard error where the file cannot be read to its end or a line not written.
+use judge::Judge;
+use judge::begin;
+use judge::judge_end;
+use judge::judge_read;
+use libc::STDERR_FILENO;
+use libc::STDIN_FILENO;
+use libc::STDOUT_FILENO;
+ghost use Prim.Native.Nat.{_≤_};
+ghost use lib.ListN.{length};
+
+// After a portion: what is carried on, whether there may be more to read, and whether all went well so far.
+struct Onward {
+    judge: Judge,
+    more: bool,
+    well: bool,
+}
+
+// The first k bytes; whether they were written.
+fn tell(told: &[u8], k: usize) -> bool
+    requires { ⌜ k ≤ length (now told) ⌝ }
+{
+    if io::write_all(STDOUT_FILENO, &told[..k]) {
+        return true;
+    }
+    io::write_all(
+        STDERR_FILENO,
+        b"replay: a day's line could not be written\n",
+    );
+    false
+}
+
+// Reads once, and tells of the days that end there.
+fn replay_some(
+    j: Judge,
+    input: &mut [u8; 33314],
+    out: &mut [u8; 21100],
+    told: &mut [u8; 65536],
+) -> Onward {
+    let mut portion = [0u8; 1024];
+    let got = libc::read(STDIN_FILENO, &mut portion);
+    if got < 0 {
+        io::write_all(
+            STDERR_FILENO,
+            b"replay: the file could not be read to its end\n",
+        );
+        return Onward {
+            judge: j,
+            more: false,
+            well: false,
+        };
+    }
+    let n = io::count(got, &portion);
+    let t = judge_read(j, &portion, n, input, out, &mut *told);
+    let judge = t.judge;
+    let at = t.at;
+    let written = tell(&*told, at);
+    Onward {
+        judge: judge,
+        more: written & (0 < n),
+        well: written,
+    }
+}
+
+// The end of the file.
+fn replay_end(j: Judge, input: &mut [u8; 33314], out: &mut [u8; 21100], told: &mut [u8; 65536]) {
+    let k = judge_end(j, input, out, &mut *told);
+    tell(&*told, k);
+}
+
+// A proved loop has to end, and nothing says that a file does: so the loop counts down from a number that no run uses
+// up. With 2^53 portions of 1,024 bytes a day's number stays below 2^63.
+fn replay(input: &mut [u8; 33314], out: &mut [u8; 21100], told: &mut [u8; 65536]) {
+    let mut j = begin();
+    let mut turns: u64 = 9007199254740992;
+    while 0 < turns {
+        let on = replay_some(j, &mut *input, &mut *out, &mut *told);
+        j = on.judge;
+        if !on.more {
+            if on.well {
+                replay_end(j, input, out, told);
+            }
+            return;
+        }
+        turns -= 1;
+    }
+    io::write_all(STDERR_FILENO, b"replay: the file is too long\n");
+}
+
+fn main() {
+    let mut input = [0; 33314];
+    let mut out = [0; 21100];
+    let mut told = [0; 65536];
+    replay(&mut input, &mut out, &mut told);
+}
