@@ -9,11 +9,7 @@ use lib.Dec.{eqb}
 use lib.ListN.{length, length-append}
 use Rattle.days.specs.Judged.{linesFrom, same}
 use Rattle.days.specs.Going.{meets, rest}
-
-pub same-itself : (l : List ℕ) → same l l ≡ true
-unfolding same
-same-itself [] = refl
-same-itself (a ∷ l) = rw (eq-eqb a a refl, same-itself l)
+use Rattle.days.proofs.Same.{same-itself}
 
 -- a line is not the same as one that goes on with c
 longer-differs : (l : List ℕ) (c : ℕ) (u : List ℕ) → same (l ++ (c ∷ u)) l ≡ false

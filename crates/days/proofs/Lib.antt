@@ -2,3 +2,4 @@ pub mod Online
 pub mod Bytes
 pub mod Portions
 pub mod Examples
+pub mod Same

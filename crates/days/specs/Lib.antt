@@ -2,3 +2,4 @@ pub mod Judged
 pub mod Going
 pub mod Portions
 pub mod Examples
+pub mod Same

@@ -1,13 +1,11 @@
 -- What is known of a line tells whether it is the D or the Z. Assumes nothing.
 use Prim.Native.Nat.{ℕ}
-use borrow.Author.Tests.{eqb-true}
 use mathlib.Core.Bool.{Bool, true, false, _&&_}
 use mathlib.Core.List.{List, [], _∷_}
-use mathlib.Core.Path.{_≡_, refl, sym, _∙_}
+use mathlib.Core.Path.{_≡_, refl, _∙_}
 use lib.Dec.{eqb}
-use Rattle.leaves.proofs.Pick.{never}
-use Rattle.leaves.proofs.Said.{all-l}
 use Rattle.days.specs.Judged.{onlyD, onlyZ, same}
+use Rattle.days.proofs.Same.{same-equal}
 use Rattle.beside.specs.Machine.{holdsOnly, shapeOf}
 use Rattle.beside.specs.declared.Line.{Line}
 
@@ -25,12 +23,6 @@ only [] b = refl
 only (c ∷ []) b = and-true (eqb c b)
 only (c ∷ d ∷ l) b = and-false (eqb c b)
 
-only-one : (l : List ℕ) (b : ℕ) → same l (b ∷ []) ≡ true → l ≡ b ∷ []
-unfolding same
-only-one [] b e = never (sym e)
-only-one (c ∷ []) b e = let h : c ≡ b = eqb-true c b (all-l _ _ e) in rw h
-only-one (c ∷ d ∷ l) b e = never (sym (and-false (eqb c b) ∙ e))
-
 module _ {line : Line} (l : List ℕ) (is : line ≡ shapeOf l) {t : Bool} where
   pub is-d : t ≡ holdsOnly line 68 → t ≡ onlyD l
   unfolding onlyD
@@ -42,4 +34,4 @@ module _ {line : Line} (l : List ℕ) (is : line ≡ shapeOf l) {t : Bool} where
 
 pub d-is : (l : List ℕ) → onlyD l ≡ true → l ≡ 68 ∷ []
 unfolding onlyD
-d-is l e = only-one l 68 e
+d-is l e = same-equal l (68 ∷ []) e
