@@ -1,6 +1,6 @@
 //! Document 01's example, its marked examples and its rounding, through the call. Bodies are at rest with im and arms of
-//! zero, so that a point's dvel is its rhs and nothing moves, but where a test is about the push. M8 is about `inv`
-//! alone, which the call does not give out.
+//! zero, so that a point's dvel is its rhs and nothing moves, but where a test is about the push. M8's inv(−4) does not
+//! show: of what a pair inverts, det alone may be below 0, and then its inv is not used.
 mod common;
 use common::{bits, falling, good, Lent};
 use romaludiv::*;
@@ -30,7 +30,12 @@ fn solved(contact: Contact) -> (u16, (f32, f32)) {
     let (number, branch) = lent.answer(0);
     assert_eq!(number, 0);
     assert_eq!(bits(&lent.bodies), [0; 6], "nothing moves");
-    (branch, lent.loads(0))
+    let (a, b) = lent.loads(0);
+    assert!(
+        a.is_sign_positive() && b.is_sign_positive(),
+        "no minus zero"
+    );
+    (branch, (a, b))
 }
 
 /// The contact after one step of a kind other than the pair, with its one point.
@@ -43,7 +48,9 @@ fn one_point(kind: u16, set: impl Fn(&mut Point)) -> Point {
     let mut lent = Lent::new(&[Body::default(); 2], &[contact], &[(0, kind)]);
     assert!(lent.call(1).is_ok());
     assert_eq!(lent.answer(0), (0, 0));
-    lent.contact(0).a
+    let after = lent.contact(0).a;
+    assert!(after.normal.impulse.is_sign_positive(), "no minus zero");
+    after
 }
 
 #[test]
@@ -88,6 +95,18 @@ fn m7_degraded_unless_flag_is_above_a_half() {
 }
 
 #[test]
+fn m8_the_reciprocal_of_0_is_0() {
+    // point a is pressed, and r 0 or below inv's cutoff leaves it without load; 1/0 would make no candidate pass
+    let with = |r| solved(pair((r, 1.0), 0.0, 1.0, (-5.0, 3.0)));
+    assert_eq!(with(0.0), (2, (0.0, 0.0)));
+    let cutoff = f32::from_bits(0x1e3c_e508);
+    let below = f32::from_bits(cutoff.to_bits() - 1);
+    assert_eq!(with(below), (2, (0.0, 0.0)));
+    let load = 5.0 * (1.0 / (1.0 / cutoff));
+    assert_eq!(with(cutoff), (2, (load, 0.0)));
+}
+
+#[test]
 fn m9_friction_is_cut_at_its_limit() {
     let rub = |rhs| {
         let after = one_point(2, |point| {
@@ -113,6 +132,7 @@ fn m11_and_m12_restitution_needs_a_push_before() {
     let load = |accumulator| {
         let after = one_point(3, |point| {
             (point.normal.seed, point.normal.accumulator) = (-1.0, accumulator);
+            point.normal.cfm = 0.5; // which restitution leaves aside
         });
         after.normal.impulse
     };

@@ -1,7 +1,6 @@
-//! Numbers 5 to 10, which refuse one step: each by several inputs. Every try stands in a list before a good step on
-//! other rows, which has to be done all the same, and no bit of the refused step's rows may change.
+//! Numbers 5 to 10, which refuse one step: each by several inputs, tried by `common::number`.
 mod common;
-use common::{bits, falling, good, Lent};
+use common::{good, number};
 use romaludiv::*;
 
 const BAD: [f32; 3] = [f32::NAN, f32::INFINITY, f32::NEG_INFINITY];
@@ -10,27 +9,6 @@ const REST: [Body; 2] = [Body {
     y: 0.0,
     w: 0.0,
 }; 2];
-
-/// What the step (contact, kind) on these two bodies is answered; body 2 and its contact are the good step's.
-fn number(bodies: [Body; 2], contact: Contact, kind: u16) -> u16 {
-    let (body, other) = falling(2);
-    let [first, second] = bodies;
-    let contacts = [contact, other];
-    let mut lent = Lent::new(&[first, second, body], &contacts, &[(0, kind), (1, 1)]);
-    let before = lent.clone();
-    let done = lent.call(2).expect("the call is not refused");
-    let (number, branch) = lent.answer(0);
-    if number != 0 {
-        assert_eq!(branch, 0);
-        assert_eq!(bits(&lent.bodies[..6]), bits(&before.bodies[..6]));
-        assert_eq!(bits(&lent.floats[..45]), bits(&before.floats[..45]));
-    }
-    let refused = usize::from(number != 0);
-    assert_eq!(done, Done { done: 2, refused });
-    assert_eq!(lent.answer(1), (0, 0), "the list goes on");
-    assert_eq!(lent.loads(1), (2.0, 0.0), "the list goes on");
-    number
-}
 
 /// As `number`, of `good()` with a change, on bodies at rest.
 fn changed(kind: u16, change: impl Fn(&mut Contact)) -> u16 {

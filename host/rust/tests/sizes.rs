@@ -71,6 +71,10 @@ fn a_contacts_stretches_have_equally_many_rows() {
     let mut lent = small();
     lent.floats.clear();
     lent.refused(1, Refusal::Sizes, "no floats");
+    let mut lent = small();
+    lent.numbers.extend([0; NUMBERS_WIDTH]);
+    lent.floats.extend([0.0; FLOATS_WIDTH]);
+    assert_eq!(lent.call(1), Ok(ONE), "a row more of both");
 }
 
 #[test]
@@ -88,10 +92,13 @@ fn contacts_up_to_16384() {
     let mut lent = small();
     lent.numbers = vec![0; LARGEST_CONTACTS * NUMBERS_WIDTH];
     lent.floats = vec![0.0; LARGEST_CONTACTS * FLOATS_WIDTH];
+    lent.steps[0] = (LARGEST_CONTACTS - 1) as u16;
     assert_eq!(lent.call(1), Ok(ONE));
+    lent.room.fill(UNTOUCHED);
+    lent.steps[0] = LARGEST_CONTACTS as u16;
+    lent.clone().refused(1, Refusal::NoSuchContact, "one past");
     lent.numbers.extend([0; NUMBERS_WIDTH]);
     lent.floats.extend([0.0; FLOATS_WIDTH]);
-    lent.room.fill(UNTOUCHED);
     lent.refused(1, Refusal::Sizes, "16,385 contacts");
 }
 
@@ -105,9 +112,24 @@ fn steps_up_to_65536() {
         refused: LARGEST_STEPS,
     };
     assert_eq!(lent.call(usize::MAX), Ok(all));
+    lent.room.fill(UNTOUCHED);
+    let mut short = lent.clone();
+    short.room.truncate((LARGEST_STEPS - 1) * ANSWER_WIDTH);
+    short.refused(usize::MAX, Refusal::Room, "room for 65,535");
     lent.steps.extend([0; STEP_WIDTH]);
     lent.room.extend([UNTOUCHED; ANSWER_WIDTH]);
     lent.refused(usize::MAX, Refusal::Sizes, "65,537 steps");
+}
+
+#[test]
+fn a_budget_one_below_the_longest_list() {
+    let mut lent = small();
+    lent.steps = vec![0; LARGEST_STEPS * STEP_WIDTH];
+    lent.room = vec![UNTOUCHED; LARGEST_STEPS * ANSWER_WIDTH];
+    let (done, refused) = (LARGEST_STEPS - 1, LARGEST_STEPS - 1);
+    assert_eq!(lent.call(done), Ok(Done { done, refused }));
+    assert_eq!(lent.answer(done - 1), (5, 0));
+    assert_eq!(lent.answer(done), (UNTOUCHED, UNTOUCHED));
 }
 
 #[test]
@@ -129,6 +151,18 @@ fn the_last_rows_of_the_largest_tables_are_worked() {
     assert_eq!(lent.answer(LARGEST_STEPS - 1), (0, 0));
     assert_eq!(lent.loads(LARGEST_CONTACTS - 1), (2.0, 0.0));
     assert_eq!(lent.body(LARGEST_BODIES - 1), Body::default());
+}
+
+#[test]
+fn the_text_programs_tables_with_every_row_zero() {
+    let zero = Contact::default(); // joins body 0 with itself
+    let mut lent = Lent::new(&[Body::default(); 64], &[zero; 64], &[(0, 0); 256]);
+    let all = Done {
+        done: 256,
+        refused: 256,
+    };
+    assert_eq!(lent.call(256), Ok(all));
+    assert_eq!(lent.room, [5, 0].repeat(256));
 }
 
 #[test]

@@ -1,4 +1,4 @@
-//! What the tests share: the stretches of a call as one value, and contacts to start from.
+//! What the tests share: the stretches of a call as one value, contacts to start from, and one step's answer.
 #![allow(dead_code)] // each test file uses a part of it
 use romaludiv::*;
 
@@ -121,4 +121,26 @@ pub fn falling(k: u16) -> (Body, Contact) {
         ..Body::default()
     };
     (body, contact)
+}
+
+/// The number that a step on this contact is answered; bodies 0 and 1 are these. It stands in a list before a good step
+/// on other rows, which has to be done all the same. If it is refused, no bit of its own rows may change.
+pub fn number(bodies: [Body; 2], contact: Contact, kind: u16) -> u16 {
+    let (body, other) = falling(2);
+    let [first, second] = bodies;
+    let contacts = [contact, other];
+    let mut lent = Lent::new(&[first, second, body], &contacts, &[(0, kind), (1, 1)]);
+    let before = lent.clone();
+    let done = lent.call(2).expect("the call is not refused");
+    let (number, branch) = lent.answer(0);
+    if number != 0 {
+        assert_eq!(branch, 0);
+        assert_eq!(bits(&lent.bodies[..6]), bits(&before.bodies[..6]));
+        assert_eq!(bits(&lent.floats[..45]), bits(&before.floats[..45]));
+    }
+    let refused = usize::from(number != 0);
+    assert_eq!(done, Done { done: 2, refused });
+    assert_eq!(lent.answer(1), (0, 0), "the list goes on");
+    assert_eq!(lent.loads(1), (2.0, 0.0), "the list goes on");
+    number
 }
