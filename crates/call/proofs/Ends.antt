@@ -5,12 +5,12 @@ use mathlib.Core.Path.{_≡_, sym, _∙_, ap}
 use mathlib.Core.Logic.{_≢_}
 use lib.Dec.{eqb}
 use borrow.Author.Tests.{eq-eqb, ne-eqb}
-use Rattle.leaves.proofs.Pick.{take, pass}
-use Rattle.refusals.specs.Refusals.{first}
-use Rattle.rows.specs.Rows.{rows}
-use Rattle.sweep.specs.Sweep.{Tables, sweep, swept}
-use Rattle.checks.specs.Checks.{wholeCall}
-use Rattle.call.specs.Call.{allDone, end, lend, nothingDone, oneByOne}
+use Rattle.base_words.proofs.Pick.{take, pass}
+use Rattle.base_refusals.specs.Refusals.{first}
+use Rattle.base_rows.specs.Rows.{rows}
+use Rattle.list_rules.specs.Sweep.{Tables, sweep, swept}
+use Rattle.list_checks.specs.Checks.{wholeCall}
+use Rattle.call_rules.specs.Call.{allDone, end, lend, nothingDone, oneByOne}
 
 module _ (t : Tables) (steps room : List ℕ) (budget : ℕ) {number : ℕ} (checked : number ≡ first (wholeCall t steps room)) where
   pub call-refused : number ≢ 0 → end number 0 0 t room ≡ oneByOne (lend t steps room) budget

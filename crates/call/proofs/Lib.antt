@@ -1,4 +1,1 @@
 pub mod Ends
-pub mod Demands
-pub mod Reordered
-pub mod Swapped

@@ -1,12 +1,12 @@
 // The call that the workshop's programs make: tables, a list of steps and room for answers are lent,
 // and the steps are done one by one, unless the whole call is refused. It asks nothing of its caller.
-use checks::whole_call;
-use walk::sweep;
+use list_checks::whole_call;
+use quick_sweep::sweep;
 ghost use mathlib.Core.Path.{_≡_};
 ghost use Prim.Native.Nat.{min};
-ghost use Rattle.sweep.specs.Sweep.{tables};
-ghost use Rattle.call.specs.Call.{end, lend};
-ghost use Rattle.call.specs.Demands.{Demand2};
+ghost use Rattle.list_rules.specs.Sweep.{tables};
+ghost use Rattle.call_rules.specs.Call.{end, lend};
+ghost use Rattle.call_rules.specs.Demands.{Demand2};
 
 // The number that refuses the whole call, or 0; how many steps were done, and how many of those were
 // refused.

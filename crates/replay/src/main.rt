@@ -1,13 +1,13 @@
 // The replay of recorded nights: a file of days on standard input, a line for each day on standard output. All that it
-// says stands in the crate judge; here are the buffers, the reading in portions of at most 1,024 bytes, and what is said
+// says stands in the crate replay_judge; here are the buffers, the reading in portions of at most 1,024 bytes, and what is said
 // on standard error where the file cannot be read to its end or a line not written.
-use judge::Judge;
-use judge::begin;
-use judge::judge_end;
-use judge::judge_read;
 use libc::STDERR_FILENO;
 use libc::STDIN_FILENO;
 use libc::STDOUT_FILENO;
+use replay_judge::Judge;
+use replay_judge::begin;
+use replay_judge::judge_end;
+use replay_judge::judge_read;
 ghost use Prim.Native.Nat.{_≤_};
 ghost use lib.ListN.{length};
 
@@ -19,7 +19,7 @@ struct Onward {
 }
 
 // The first k bytes; whether they were written.
-fn tell(told: &[u8], k: usize) -> bool
+fn write_out(told: &[u8], k: usize) -> bool
     requires { ⌜ k ≤ length (now told) ⌝ }
 {
     if io::write_all(STDOUT_FILENO, &told[..k]) {
@@ -56,7 +56,7 @@ fn replay_some(
     let t = judge_read(j, &portion, n, input, out, &mut *told);
     let judge = t.judge;
     let at = t.at;
-    let written = tell(&*told, at);
+    let written = write_out(&*told, at);
     Onward {
         judge: judge,
         more: written & (0 < n),
@@ -67,7 +67,7 @@ fn replay_some(
 // The end of the file.
 fn replay_end(j: Judge, input: &mut [u8; 33314], out: &mut [u8; 21100], told: &mut [u8; 65536]) {
     let k = judge_end(j, input, out, &mut *told);
-    tell(&*told, k);
+    write_out(&*told, k);
 }
 
 // A proved loop has to end, and nothing says that a file does: so the loop counts down from a number that no run uses

@@ -3,9 +3,9 @@
 // test, and the host owes, stands in that header.
 use call::call;
 ghost use mathlib.Core.Path.{_≡_};
-ghost use Rattle.sweep.specs.Sweep.{tables};
-ghost use Rattle.call.specs.Call.{end, lend};
-ghost use Rattle.call.specs.Demands.{Demand2};
+ghost use Rattle.list_rules.specs.Sweep.{tables};
+ghost use Rattle.call_rules.specs.Call.{end, lend};
+ghost use Rattle.call_rules.specs.Demands.{Demand2};
 
 // As `call::call`: the result is the number that refuses the whole call, or 0; how many steps were done and how many
 // of those were refused go out through the last two parameters.

@@ -1,11 +1,11 @@
 // The text program: a night's text on standard input, its answer on standard output. All that it does stands in
-// text::answer_front; here are the buffers, one that holds as much of any input as decides its output and one
+// text_program::answer_front; here are the buffers, one that holds as much of any input as decides its output and one
 // that holds any output, and what is said on standard error where the input cannot be read to its end or the
 // output not written.
 use libc::STDERR_FILENO;
 use libc::STDIN_FILENO;
 use libc::STDOUT_FILENO;
-use text::answer_front;
+use text_program::answer_front;
 ghost use Prim.Native.Nat.{_≤_};
 ghost use lib.ListN.{length};
 
@@ -23,7 +23,7 @@ fn read_whole(n: usize) -> bool {
 }
 
 // The first k bytes.
-fn tell(out: &[u8], k: usize)
+fn write_out(out: &[u8], k: usize)
     requires { ⌜ k ≤ length (now out) ⌝ }
 {
     if !io::write_all(STDOUT_FILENO, &out[..k]) {
@@ -41,7 +41,7 @@ fn answer(input: &mut [u8; 33313], out: &mut [u8; 21100]) {
         return;
     }
     let k = answer_front(&*input, n, &mut *out);
-    tell(out, k);
+    write_out(out, k);
 }
 
 fn main() {

@@ -21,8 +21,8 @@ returns c = search needs
 answer-front-requires : tie.Need-answer-front-requires
 answer-front-requires c κs = search needs
 
-tell-requires : tie.Need-tell-requires
-tell-requires c κs = omega (arith, (c .before .before .answer-front .ensures .fits))
+write-out-requires : tie.Need-write-out-requires
+write-out-requires c κs = omega (arith, (c .before .before .answer-front .ensures .fits))
 
 returns-2 : tie.Need-returns-2
 returns-2 c = search needs
@@ -37,5 +37,5 @@ answer-spec =
     write-all-requires
     returns
     answer-front-requires
-    tell-requires
+    write-out-requires
     returns-2)

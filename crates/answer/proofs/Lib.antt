@@ -1,3 +1,0 @@
-pub mod Fronts
-pub mod Floating
-pub mod Called

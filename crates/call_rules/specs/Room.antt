@@ -1,0 +1,9 @@
+-- Document 01, "Numbers that refuse": "Answer room past the steps done isn't touched", of everything that a call may leave. Proved in
+-- proofs/Demands.antt. Assumes nothing.
+use Prim.Native.Nat.{ℕ, _≤_}
+use mathlib.Core.Path.{_≡_}
+use Rattle.base_rows.specs.Rows.{row}
+use Rattle.call_rules.specs.Call.{Ended, Lent}
+
+abbrev pub RoomKept : Lent → Ended → Type 0
+RoomKept lent e = (i : ℕ) → e .done ≤ i → row 2 i (e .room) ≡ row 2 i (lent .room)

@@ -1,3 +1,0 @@
-pub mod Machine
-pub mod Stands
-pub mod Replayed

@@ -1,3 +1,0 @@
-pub mod Itself
-pub mod Pick
-pub mod Said

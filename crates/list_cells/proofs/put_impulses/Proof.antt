@@ -1,0 +1,50 @@
+-- `list_cells::put_impulses` meets its contract. A row, no row. Assumes nothing.
+use Rattle.list_cells.proofs.Put.{impulses-past, impulses-put}
+use borrow.Author.Needs.{needs}
+use Rattle.list_cells.proofs.put_impulses.Statement.{statement}
+use Rattle.list_cells.proofs.put_impulses.Tie as tie
+
+mul-i : tie.Need-mul-i
+mul-i c = search needs
+
+add-store-contact : tie.Need-add-store-contact
+add-store-contact c = search needs
+
+mul-store-contact : tie.Need-mul-store-contact
+mul-store-contact c = search needs
+
+sub-store-contact : tie.Need-sub-store-contact
+sub-store-contact c = search needs
+
+part-store-contact-start : tie.Need-part-store-contact-start
+part-store-contact-start c = search needs
+
+part-store-contact-end : tie.Need-part-store-contact-end
+part-store-contact-end c = search needs
+
+store-contact-requires : tie.Need-store-contact-requires
+store-contact-requires c κs = search needs
+
+same-length : tie.Need-same-length
+same-length c = search needs
+
+returns : tie.Need-returns
+returns c = search impulses-put
+
+returns-2 : tie.Need-returns-2
+returns-2 c = search impulses-past
+
+pub put-impulses-spec : {M : Type 1} → statement M
+put-impulses-spec =
+    tie.close
+    (tie.spec
+    mul-i
+    add-store-contact
+    mul-store-contact
+    sub-store-contact
+    part-store-contact-start
+    part-store-contact-end
+    store-contact-requires
+    same-length
+    returns
+    returns-2)

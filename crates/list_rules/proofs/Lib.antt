@@ -1,0 +1,6 @@
+pub mod Steps
+pub mod Going
+pub mod Room
+pub mod Done
+pub mod Rows
+pub mod Exact

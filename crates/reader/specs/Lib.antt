@@ -1,3 +1,0 @@
-pub mod Night
-pub mod Lines
-pub mod Machine

@@ -1,0 +1,25 @@
+-- `replay_compare::longer` meets its contract. By what is known of the line. Assumes nothing.
+use borrow.Author.Needs.{needs}
+use Rattle.replay_compare.proofs.longer.Statement.{statement}
+use Rattle.replay_compare.proofs.longer.Tie as tie
+
+enum-told : tie.Need-enum-told
+enum-told c = search needs
+
+enum-told-2 : tie.Need-enum-told-2
+enum-told-2 c = search needs
+
+enum-told-3 : tie.Need-enum-told-3
+enum-told-3 c = search needs
+
+returns : tie.Need-returns
+returns c = rw ((c .enum-told .given .1))
+
+returns-2 : tie.Need-returns-2
+returns-2 c = search needs
+
+returns-3 : tie.Need-returns-3
+returns-3 c = search needs
+
+pub longer-spec : {M : Type 1} → statement M
+longer-spec = tie.close (tie.spec enum-told enum-told-2 enum-told-3 returns returns-2 returns-3)

@@ -1,0 +1,162 @@
+// A recorded output beside the output, byte after byte: of a recorded line no more is kept than whether it is empty, one
+// byte or longer, and how far it agrees with the output's next line. And the lines that tell of a day.
+use text_digits::put;
+ghost use mathlib.Core.Path.{_≡_};
+ghost use mathlib.Core.List.{_++_};
+ghost use lib.ListN.{take};
+ghost use Rattle.text_digits.specs.Digits.{decField};
+ghost use Rattle.text_digits.specs.Wrote.{Wrote};
+ghost use Rattle.replay_days.specs.Judged.{dayLine, verdict};
+ghost use Rattle.replay_compare.specs.Spots.{comparedTo, endNumber, holdsOnly, longerLine, metBy, nextOf, oneMore};
+
+// What is known of the line so far.
+pub enum LineSoFar {
+    Empty,
+    One(u8),
+    More,
+}
+
+// A spot in the output that a recorded one is compared with: how long the output is, where its line starts, and,
+// while that line and the recorded one agree (`on`), how far they do; and the line's number.
+pub struct Spot {
+    pub len: usize,
+    pub start: usize,
+    pub at: usize,
+    pub on: bool,
+    pub number: usize,
+}
+
+// The output's next byte and the place after it, or its end.
+pub enum Next {
+    Byte(u8, usize),
+    End,
+}
+
+// Whether a recorded line is the output's next one: where the one after that starts.
+pub enum Meeting {
+    Line(usize),
+    Other,
+}
+
+// The line with one byte more.
+pub fn longer(line: LineSoFar, b: u8) -> LineSoFar
+    ensures { λ r. ⌜ r ≡ longerLine line b ⌝ }
+{
+    match line {
+        LineSoFar::Empty => LineSoFar::One(b),
+        LineSoFar::One(_) => LineSoFar::More,
+        LineSoFar::More => LineSoFar::More,
+    }
+}
+
+pub fn holds_only(line: LineSoFar, b: u8) -> bool
+    ensures { λ r. ⌜ r ≡ holdsOnly line b ⌝ }
+{
+    match line {
+        LineSoFar::Empty => false,
+        LineSoFar::One(c) => c == b,
+        LineSoFar::More => false,
+    }
+}
+
+// A count never goes past what a machine word holds.
+pub fn one_more(n: usize) -> usize
+    ensures { λ r. ⌜ r ≡ oneMore n ⌝ }
+{
+    if n < 18446744073709551615 { n + 1 } else { n }
+}
+
+// The byte at a place of the output, which is the first len bytes of the buffer.
+pub fn next_byte(out: &[u8], len: usize, at: usize) -> Next
+    ensures { λ r. ⌜ r ≡ nextOf (take len (now (out .entry))) at ⌝ }
+{
+    if at < len {
+        if at < out.len() {
+            return Next::Byte(out[at], at + 1);
+        }
+    }
+    Next::End
+}
+
+// A recorded byte beside the output's next.
+pub fn compare(p: Spot, next: Next, b: u8) -> Spot
+    ensures { λ r. ⌜ r ≡ comparedTo p next b ⌝ }
+{
+    let mut q = p;
+    match next {
+        Next::Byte(c, after) => {
+            if c == b {
+                q.at = after;
+            } else {
+                q.on = false;
+            }
+        }
+        Next::End => {
+            q.on = false;
+        }
+    }
+    q
+}
+
+// The end of a recorded line beside the output's next byte. The output's last line may end with the output.
+pub fn met(p: Spot, next: Next, line: LineSoFar) -> Meeting
+    ensures { λ r. ⌜ r ≡ metBy p next line ⌝ }
+{
+    let at = p.at;
+    if p.on {
+        match next {
+            Next::Byte(c, after) => {
+                if c == 10 {
+                    Meeting::Line(after)
+                } else {
+                    Meeting::Other
+                }
+            }
+            Next::End => match line {
+                LineSoFar::Empty => Meeting::Other,
+                LineSoFar::One(_) => Meeting::Line(at),
+                LineSoFar::More => Meeting::Line(at),
+            },
+        }
+    } else {
+        Meeting::Other
+    }
+}
+
+// A day's line of two fields.
+pub fn tell(told: &mut [u8], at: usize, day: usize, second: u64) -> usize
+    ensures { λ r. ⌜ Wrote (now (told .entry)) at (dayLine day (decField second)) (now (told .exit)) r ⌝ }
+{
+    let a = text_digits::dec_number(&mut *told, at, day as u64);
+    let b = text_digits::dec_field(&mut *told, a, second);
+    put(told, b, 10)
+}
+
+// The first differing line of a day, by its number.
+fn tell_differing(told: &mut [u8], at: usize, day: usize, n: usize) -> usize
+    ensures { λ r. ⌜ Wrote (now (told .entry)) at (dayLine day (decField 1 ++ decField n)) (now (told .exit)) r ⌝ }
+{
+    let a = text_digits::dec_number(&mut *told, at, day as u64);
+    let b = text_digits::dec_field(&mut *told, a, 1);
+    let c = text_digits::dec_field(&mut *told, b, n as u64);
+    put(told, c, 10)
+}
+
+// The same, where n is 0; else the first differing line.
+pub fn tell_verdict(told: &mut [u8], at: usize, day: usize, n: usize) -> usize
+    ensures { λ r. ⌜ Wrote (now (told .entry)) at (verdict day n) (now (told .exit)) r ⌝ }
+{
+    if n == 0 {
+        tell(told, at, day, 0)
+    } else {
+        tell_differing(told, at, day, n)
+    }
+}
+
+// The number of the line that is missing where the recorded output ends, 0 where none is.
+pub fn end_number(p: Spot) -> usize
+    ensures { λ r. ⌜ r ≡ endNumber p ⌝ }
+{
+    let number = p.number;
+    if p.start < p.len { number } else { 0 }
+}

@@ -1,0 +1,26 @@
+-- `replay_judge::judge_with` meets its contract. The whole file as one portion, then the end. Assumes nothing.
+use native.Mathlib.Omega.{arith}
+use Rattle.replay_judge.proofs.Finished.{file-judged}
+use borrow.Author.Needs.{needs}
+use Rattle.replay_judge.proofs.judge_with.Statement.{statement}
+use Rattle.replay_judge.proofs.judge_with.Tie as tie
+
+begin-requires : tie.Need-begin-requires
+begin-requires c κs = search needs
+
+judge-portion-requires : tie.Need-judge-portion-requires
+judge-portion-requires c κs = search needs
+
+end-file-requires : tie.Need-end-file-requires
+end-file-requires c κs = search needs
+
+same-length : tie.Need-same-length
+same-length c = search needs
+
+returns : tie.Need-returns
+returns c = file-judged _ _ _ _ (omega (arith, (c .before .before .before .before .before .before .before .before .before .before .before .before .before .before .before .before .good))) ((c .before .before .before .before .before .before .before .before .before .before .before .before .before .begin .ensures)) ((c .before .before .before .before .before .before .before .before .before .judge-portion .ensures)) ((c .before .before .end-file .ensures))
+
+pub judge-with-spec : {M : Type 1} → statement M
+judge-with-spec =
+    tie.close
+    (tie.spec begin-requires judge-portion-requires end-file-requires same-length returns)

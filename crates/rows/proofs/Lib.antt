@@ -1,4 +1,0 @@
-pub mod Parts
-pub mod Laws
-pub mod Lent
-pub mod Places

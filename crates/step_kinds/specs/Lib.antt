@@ -1,0 +1,3 @@
+pub mod Kinds
+pub mod Writes
+pub mod Stored

@@ -1,4 +1,0 @@
-pub mod Fronts
-pub mod Bounds
-pub mod Whole
-pub mod Front

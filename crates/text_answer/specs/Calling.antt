@@ -1,0 +1,19 @@
+-- The night as the program's tables hold it, for the functions of this crate. Assumes nothing.
+use Prim.Native.Nat.{ℕ}
+use mathlib.Core.List.{List}
+use mathlib.Core.Path.{_≡_}
+use lib.Ieee.{Float}
+use Rattle.list_rules.specs.Sweep.{tables}
+use Rattle.call_rules.specs.Call.{end}
+use Rattle.call.specs.declared.Report.{Report}
+use Rattle.text_line.specs.Night.{Night}
+use Rattle.text_output.specs.Answer.{called}
+
+-- what was read; the place in the order no longer matters
+abbrev pub night : List ℕ → List ℕ → List ℕ → List ℕ → Night
+night bodies numbers floats steps = record { place = 0; bodies = bodies; numbers = numbers; floats = floats; steps = steps }
+
+-- what the call left in the program's floats and room, and its report, are what the definition says
+abbrev pub Called : Night → Report → List Float → List Float → List ℕ → Type 0
+Called t r bodyValues contactValues room =
+    end (r .refusal) (r .done) (r .refused) (tables bodyValues (t .numbers) contactValues) room ≡ called t

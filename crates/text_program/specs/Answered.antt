@@ -1,0 +1,25 @@
+-- What the text program leaves in its buffer. Assumes nothing.
+use Prim.Native.Nat.{ℕ, _≤_, _<_}
+use mathlib.Core.List.{List, [], _++_}
+use mathlib.Core.Path.{_≡_}
+use lib.ListN.{length, take}
+use lib.Seq.{sets}
+use Rattle.text_prefix.specs.Prefix.{enough}
+use Rattle.text_output.specs.Bounds.{most}
+use Rattle.text_output.specs.Output.{output}
+
+-- the buffer o became o′, and `number` bytes of it are told
+pub record Answered (input o o′ : List ℕ) (number : ℕ) : Type 0 where
+  -- as many bytes as the output has
+  pub many : number ≡ length (output input)
+  -- the output stands at the buffer's front, and past it the buffer is as it was
+  pub bytes : o′ ≡ sets o 0 (output input)
+  -- so what is told is the output
+  pub told : take number o′ ≡ output input
+
+-- n bytes of an input were read to the front of a buffer that holds 33,313
+pub record AnsweredFront (buffer : List ℕ) (n : ℕ) (o o′ : List ℕ) (number : ℕ) : Type 0 where
+  -- where nothing came after them unless they filled it, what is told is the output of the whole input, however long that is
+  pub whole : (rest : List ℕ) → (n < enough → rest ≡ []) → Answered (take n buffer ++ rest) o o′ number
+  -- and no more is told than there is
+  pub fits : number ≤ most

@@ -1,0 +1,60 @@
+-- The program's cursor in its input as a text being read, for the functions of this crate. Assumes nothing.
+use Prim.Native.Nat.{ℕ, _+_, _-_, _≤_}
+use mathlib.Core.Bool.{_&&_}
+use mathlib.Core.List.{List, []}
+use mathlib.Core.Path.{_≡_}
+use lib.Dec.{leb}
+use lib.ListN.{drop, take}
+use Rattle.base_words.specs.Choice.{if_then_else_}
+use Rattle.text_line.specs.Night.{Room}
+use Rattle.text_line.specs.Filled.{Sane, nightOf}
+use Rattle.text_line.specs.declared.State.{State}
+use Rattle.text_read.specs.Text.{Text, feed, reading, refused}
+use Rattle.text_read.specs.declared.Cursor.{Cursor}
+use Rattle.text_read.specs.declared.Fed.{Fed}
+use Rattle.text_read.specs.declared.Fed.the-variants.{Next, Refused}
+use Rattle.text_read.specs.declared.End.{End}
+use Rattle.text_read.specs.declared.End.the-variants.{Whole, Bad}
+
+-- at byte i of input x the line so far is what stands from the cursor's start on
+unfoldable pub textAt : Cursor → List ℕ → ℕ → List ℕ → List ℕ → List ℕ → List ℕ → Text
+textAt k x i bodies numbers floats steps =
+    reading (take (i - k .start) (drop (k .start) x)) (k .number) (nightOf (k .st) bodies numbers floats steps)
+
+unfoldable pub fedText : Fed → List ℕ → ℕ → List ℕ → List ℕ → List ℕ → List ℕ → Text
+fedText (Next k) x i bodies numbers floats steps = textAt k x i bodies numbers floats steps
+fedText (Refused number reason) x i bodies numbers floats steps = refused number reason
+
+-- what a whole text said, or its first bad line and the reason
+unfoldable pub endText : End → List ℕ → List ℕ → List ℕ → List ℕ → Text
+endText (Whole st number) bodies numbers floats steps = reading [] number (nightOf st bodies numbers floats steps)
+endText (Bad number reason) bodies numbers floats steps = refused number reason
+
+-- what has been read, unless a contact is cut short
+unfoldable pub wholeEnd : State → ℕ → End
+wholeEnd st number = if leb 1 (st .place) && leb (st .place) 4 then Bad number 3 else Whole st number
+
+pub record Fine (k : Cursor) (i : ℕ) (bodies numbers floats steps : List ℕ) : Type 0 where
+  pub sane : Sane (k .st) bodies numbers floats steps
+  pub start : k .start ≤ i
+  pub short : i ≤ k .start + 160
+  pub number : k .number ≤ i + 1
+
+abbrev pub FineFed : Fed → ℕ → List ℕ → List ℕ → List ℕ → List ℕ → Type 0
+FineFed (Next k) i bodies numbers floats steps = Fine k i bodies numbers floats steps
+FineFed (Refused number reason) i bodies numbers floats steps = ℕ
+
+-- byte i of x was fed
+pub record Feeds (room : Room) (before : Text) (byte : ℕ) (x : List ℕ) (i : ℕ) (r : Fed)
+    (bodies′ numbers′ floats′ steps′ : List ℕ) : Type 0 where
+  pub is : fedText r x (i + 1) bodies′ numbers′ floats′ steps′ ≡ feed room before byte
+  pub fine : FineFed r (i + 1) bodies′ numbers′ floats′ steps′
+
+abbrev pub SaneEnd : End → List ℕ → List ℕ → List ℕ → List ℕ → Type 0
+SaneEnd (Whole st number) bodies numbers floats steps = Sane st bodies numbers floats steps
+SaneEnd (Bad number reason) bodies numbers floats steps = ℕ
+
+-- the text was read to its end, and came to x
+pub record ReadWhole (x : Text) (r : End) (bodies numbers floats steps : List ℕ) : Type 0 where
+  pub is : endText r bodies numbers floats steps ≡ x
+  pub sane : SaneEnd r bodies numbers floats steps

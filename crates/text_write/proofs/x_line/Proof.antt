@@ -1,0 +1,22 @@
+-- `text_write::x_line` meets its contract. A line of numbers. Assumes nothing.
+use Rattle.text_write.specs.Lines.{xLine}
+use borrow.Author.Needs.{needs}
+use Rattle.text_write.proofs.x_line.Statement.{statement}
+use Rattle.text_write.proofs.x_line.Tie as tie
+
+slice-aggregate-numbers-line : tie.Need-slice-aggregate-numbers-line
+slice-aggregate-numbers-line c = search needs
+
+numbers-line-requires : tie.Need-numbers-line-requires
+numbers-line-requires c κs = search needs
+
+same-length : tie.Need-same-length
+same-length c = search needs
+
+returns : tie.Need-returns
+unfolding xLine
+returns c = search needs
+
+pub x-line-spec : {M : Type 1} → statement M
+x-line-spec =
+    tie.close (tie.spec slice-aggregate-numbers-line numbers-line-requires same-length returns)

@@ -1,3 +1,0 @@
-pub mod Kept
-pub mod Parts
-pub mod Stays
