@@ -1,0 +1,123 @@
+-- Document 01, "Tables" and "Text form", as numbers: how wide the rows of the lent stretches are, where a point's loads stand among its
+-- floats, how much a call and the text program take, and how long a text and its output can be. src/lib.rt says the same for code; every
+-- other file has these names, and no number of its own. Assumes nothing.
+use Prim.Native.Nat.{ℕ, _+_, _*_}
+use mathlib.Core.List.{List, [], _∷_}
+use Rattle.base_places.specs.declared.Cell.{Cell}
+use Rattle.base_places.specs.declared.Cell.the-variants.{NormalImpulse, TangentImpulse}
+
+-- "A body has velocity x, y and angular w"
+abbrev pub bodyWidth : ℕ
+bodyWidth = 3
+
+-- "Each contact carries .. two body numbers, point count" ..
+abbrev pub numbersWidth : ℕ
+numbersWidth = 3
+
+-- .. "dir, im1, im2 (two floats each), friction, k12, flag" ..
+abbrev pub headWidth : ℕ
+headWidth = 9
+
+-- .. "and for each of two points a normal part (torque1, torque2, ii1, ii2, rhs, impulse, accumulator, r, cfm, seed)" ..
+abbrev pub normalWidth : ℕ
+normalWidth = 10
+
+-- .. "and a tangent part (the first eight of these)"
+abbrev pub tangentWidth : ℕ
+tangentWidth = 8
+
+abbrev pub pointWidth : ℕ
+pointWidth = normalWidth + tangentWidth
+
+abbrev pub floatsWidth : ℕ
+floatsWidth = headWidth + 2 * pointWidth
+
+-- where point p's floats begin: "Point a is the first, b the second"
+abbrev pub pointPlace : ℕ → ℕ
+pointPlace p = headWidth + p * pointWidth
+
+-- "A step is a contact number and a kind"
+abbrev pub stepWidth : ℕ
+stepWidth = 2
+
+-- "A step answers its number and a branch"
+abbrev pub answerWidth : ℕ
+answerWidth = 2
+
+-- the impulse within either part
+abbrev pub impulsePlace : ℕ
+impulsePlace = 5
+
+-- where a cell stands among its point's floats
+abbrev pub place : Cell → ℕ
+place NormalImpulse = impulsePlace
+place TangentImpulse = normalWidth + impulsePlace
+
+-- the cells of a point that a step may store
+abbrev pub cells : List Cell
+cells = NormalImpulse ∷ TangentImpulse ∷ []
+
+-- "A library call takes at most 4,096 bodies, 16,384 contacts and 65,536 steps"
+abbrev pub mostBodies : ℕ
+mostBodies = 4096
+
+abbrev pub mostContacts : ℕ
+mostContacts = 16384
+
+abbrev pub mostSteps : ℕ
+mostSteps = 65536
+
+-- "The text program holds 64, 64 and 256"
+abbrev pub programBodies : ℕ
+programBodies = 64
+
+abbrev pub programContacts : ℕ
+programContacts = 64
+
+abbrev pub programSteps : ℕ
+programSteps = 256
+
+-- a field: a tab and at most five digits, for "0 to 65535", or a tab and "eight lower-case hex digits"
+abbrev pub numberBytes : ℕ
+numberBytes = 1 + 5
+
+abbrev pub floatBytes : ℕ
+floatBytes = 1 + 8
+
+-- a line of so many numbers and floats: a letter, its fields, byte 10
+abbrev pub lineBytes : ℕ → ℕ → ℕ
+lineBytes numbers floats = 2 + numbers * numberBytes + floats * floatBytes
+
+-- "160 leaves it out": no good line is longer, without its byte 10
+abbrev pub mostInLine : ℕ
+mostInLine = 160
+
+-- the longest good text, 33,152 bytes: as many B, contacts of C, N, T, N, T, and S as the program holds
+abbrev pub longestText : ℕ
+longestText =
+    programBodies * lineBytes 0 bodyWidth
+    + programContacts * (lineBytes numbersWidth headWidth + 2 * (lineBytes 0 normalWidth + lineBytes 0 tangentWidth))
+    + programSteps * lineBytes stepWidth 0
+
+-- a line after it is bad, and its first 161 bytes say so: 33,313 decide
+abbrev pub deciding : ℕ
+deciding = longestText + mostInLine + 1
+
+-- the longest output, 9,550 bytes: an A for each step, all B, an I for each point, E
+abbrev pub longestOutput : ℕ
+longestOutput =
+    programSteps * lineBytes answerWidth 0
+    + programBodies * lineBytes 0 bodyWidth
+    + programContacts * 2 * lineBytes 2 2
+    + lineBytes 2 0
+
+-- the replay holds one byte of an input more, a D that is not yet known to be one: 33,314. It reads a file in portions, and tells at
+-- most so much of each
+abbrev pub held : ℕ
+held = deciding + 1
+
+abbrev pub portion : ℕ
+portion = 1024
+
+abbrev pub told : ℕ
+told = 64 * portion
