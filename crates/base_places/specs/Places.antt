@@ -2,7 +2,9 @@
 -- floats, how much a call and the text program take, and how long a text and its output can be. src/lib.rt says the same for code; every
 -- other file has these names, and no number of its own. Assumes nothing.
 use Prim.Native.Nat.{ℕ, _+_, _*_}
+use mathlib.Core.Bool.{Bool, false}
 use mathlib.Core.List.{List, [], _∷_}
+use lib.Dec.{eqb}
 use Rattle.base_places.specs.declared.Cell.{Cell}
 use Rattle.base_places.specs.declared.Cell.the-variants.{NormalImpulse, TangentImpulse}
 
@@ -44,18 +46,27 @@ stepWidth = 2
 abbrev pub answerWidth : ℕ
 answerWidth = 2
 
--- the impulse within either part
+-- the impulse and the accumulator within either part
 abbrev pub impulsePlace : ℕ
 impulsePlace = 5
+
+abbrev pub accumulatorPlace : ℕ
+accumulatorPlace = 6
 
 -- where a cell stands among its point's floats
 abbrev pub place : Cell → ℕ
 place NormalImpulse = impulsePlace
 place TangentImpulse = normalWidth + impulsePlace
 
--- the cells of a point that a step may store
+-- the cells of a point that a step may store: each, that one alone, or none
 abbrev pub cells : List Cell
 cells = NormalImpulse ∷ TangentImpulse ∷ []
+
+abbrev pub only : Cell → Cell → Bool
+only c d = eqb (place c) (place d)
+
+abbrev pub none : Cell → Bool
+none c = false
 
 -- "A library call takes at most 4,096 bodies, 16,384 contacts and 65,536 steps"
 abbrev pub mostBodies : ℕ

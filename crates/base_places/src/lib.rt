@@ -2,6 +2,7 @@
 // program take, and how long a text and its output can be. specs/Places.antt says the same for definitions; every other
 // file has these names, and no number of its own.
 ghost use mathlib.Core.Path.{_≡_};
+ghost use Rattle.base_places.specs.Places.{only};
 ghost use Rattle.base_places.specs.Places.{place as Places·place};
 
 // A body: velocity x, y and angular w.
@@ -21,14 +22,21 @@ pub const POINT_WIDTH: usize = NORMAL_WIDTH + TANGENT_WIDTH;
 
 pub const FLOATS_WIDTH: usize = HEAD_WIDTH + 2 * POINT_WIDTH;
 
+// Where each point's floats begin: a is the first, b the second.
+pub const POINT_A: usize = HEAD_WIDTH;
+
+pub const POINT_B: usize = HEAD_WIDTH + POINT_WIDTH;
+
 // A step: contact number, kind.
 pub const STEP_WIDTH: usize = 2;
 
 // An answer: number, branch.
 pub const ANSWER_WIDTH: usize = 2;
 
-// The impulse within either part.
+// The impulse and the accumulator within either part.
 pub const IMPULSE: usize = 5;
+
+pub const ACCUMULATOR: usize = 6;
 
 // The cells of a point that a step may store.
 pub enum Cell {
@@ -45,6 +53,13 @@ impl Cell {
             Cell::NormalImpulse => IMPULSE,
             Cell::TangentImpulse => NORMAL_WIDTH + IMPULSE,
         }
+    }
+
+    // Whether it is that cell: no two stand in one place.
+    pub fn is(self, that: Cell) -> bool
+        ensures { λ r. ⌜ r ≡ only that self ⌝ }
+    {
+        that.place() == self.place()
     }
 }
 

@@ -5,6 +5,7 @@ use mathlib.Core.Path.{_≡_, sym, _∙_, ap}
 use mathlib.Core.Logic.{_≢_}
 use lib.Dec.{eqb}
 use borrow.Author.Tests.{eq-eqb, ne-eqb}
+use Rattle.base_places.specs.Places.{stepWidth}
 use Rattle.base_words.proofs.Pick.{take, pass}
 use Rattle.base_refusals.specs.Refusals.{first}
 use Rattle.base_rows.specs.Rows.{rows}
@@ -18,7 +19,7 @@ module _ (t : Tables) (steps room : List ℕ) (budget : ℕ) {number : ℕ} (che
   call-refused ne =
       pass _ (ap (λ (n : ℕ). eqb n 0) (sym checked) ∙ ne-eqb number 0 ne) (ap (λ (n : ℕ). nothingDone n (lend t steps room)) checked)
 
-  pub call-done : (t′ : Tables) (room′ : List ℕ) (done refused : ℕ) → number ≡ 0 → done ≡ min budget (rows 2 steps)
+  pub call-done : (t′ : Tables) (room′ : List ℕ) (done refused : ℕ) → number ≡ 0 → done ≡ min budget (rows stepWidth steps)
       → swept t′ room′ refused ≡ sweep steps done t room → end 0 done refused t′ room′ ≡ oneByOne (lend t steps room) budget
   unfolding oneByOne allDone
   call-done t′ room′ done refused z d w =

@@ -1,5 +1,6 @@
 // The call that the workshop's programs make: tables, a list of steps and room for answers are lent,
 // and the steps are done one by one, unless the whole call is refused. It asks nothing of its caller.
+use base_places::STEP_WIDTH;
 use list_checks::whole_call;
 use quick_sweep::sweep;
 ghost use mathlib.Core.Path.{_≡_};
@@ -22,8 +23,8 @@ fn smaller(a: usize, b: usize) -> usize
     if a <= b { a } else { b }
 }
 
-// Bodies: 3 floats a row. Contacts: 3 numbers a row (body 1, body 2, count) and 45 floats a row.
-// Steps: 2 numbers a row (contact, kind). Room: 2 numbers a row (number, branch).
+// The rows of each stretch are as wide as base_places says. Bodies: x, y and angular w. Contacts: numbers (body 1, body 2,
+// count), and floats (the head, point a, point b). Steps: contact, kind. Room: number, branch.
 pub fn call(
     bodies: &mut [f32],
     numbers: &[u16],
@@ -42,7 +43,7 @@ pub fn call(
             refused: 0,
         };
     }
-    let done = smaller(budget, steps.len() / 2);
+    let done = smaller(budget, steps.len() / STEP_WIDTH);
     let refused = sweep(bodies, numbers, floats, steps, room, done);
     Report {
         refusal: 0,

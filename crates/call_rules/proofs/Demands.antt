@@ -6,6 +6,7 @@ use mathlib.Core.Logic.{_≢_}
 use mathlib.Core.Path.{_≡_, refl, sym, _∙_, ap}
 use lib.Dec.{eqb}
 use borrow.Author.Tests.{eqb-false, eqb-true}
+use Rattle.base_places.specs.Places.{answerWidth, stepWidth}
 use Rattle.base_words.proofs.Pick.{take, pass}
 use Rattle.base_refusals.specs.Refusals.{first}
 use Rattle.base_refusals.proofs.Exact.{exactly}
@@ -68,9 +69,9 @@ module _ (lent : Lent) (budget : ℕ) (e : Ended) (so : Demand2 lent budget e) w
     unfolding allDone before
     number-is =
         let is = not-refused how in
-        let room : rows 2 (lent .steps) ≤ rows 2 (lent .room) = passed.room-enough (lent .tables) (lent .steps) (lent .room) (passed-all how) in
+        let room : rows stepWidth (lent .steps) ≤ rows answerWidth (lent .room) = passed.room-enough (lent .tables) (lent .steps) (lent .room) (passed-all how) in
         let many : e .done ≡ done = ap (λ (x : Ended). x .done) is in
-        ap (λ (x : Ended). answerOf (row 2 i (x .room)) .number) is
+        ap (λ (x : Ended). answerOf (row answerWidth i (x .room)) .number) is
         ∙ ap (λ (a : Answer). a .number) (answer-read (lent .steps) (lent .tables) (lent .room) done i (omega arith) (omega arith))
         ∙ ap (λ (t : Tables). stepOn (stepAt (lent .steps) i) t .answer .number) (tables-are (lent .steps) (lent .tables) (lent .room) i)
 
@@ -95,10 +96,10 @@ module _ (lent : Lent) (budget : ℕ) (e : Ended) (so : Demand2 lent budget e) w
 
   past-done : How → RoomKept lent e
   unfolding nothingDone allDone
-  past-done (refused-by nz is) i h = ap (λ (x : Ended). row 2 i (x .room)) is
+  past-done (refused-by nz is) i h = ap (λ (x : Ended). row answerWidth i (x .room)) is
   past-done (all-done z is) i h =
       let many : e .done ≡ done = ap (λ (x : Ended). x .done) is in
-      ap (λ (x : Ended). row 2 i (x .room)) is ∙ room-past (lent .steps) (lent .tables) (lent .room) done i (omega arith)
+      ap (λ (x : Ended). row answerWidth i (x .room)) is ∙ room-past (lent .steps) (lent .tables) (lent .room) done i (omega arith)
 
 pub demand1 : (lent : Lent) (budget : ℕ) (e : Ended) → Demand2 lent budget e → Demand1 lent budget e
 demand1 lent budget e so =

@@ -4,6 +4,7 @@ use native.Mathlib.Omega.{arith}
 use mathlib.Core.List.{List}
 use mathlib.Core.Path.{_≡_, sym, _∙_, ap}
 use lib.ListN.{getD, length}
+use Rattle.base_places.specs.Places.{stepWidth}
 use Rattle.base_refusals.specs.Refusals.{first}
 use Rattle.base_rows.specs.Rows.{rows}
 use Rattle.list_cells.specs.declared.Answer.{Answer}
@@ -23,11 +24,11 @@ use Rattle.call_rules.specs.Demands.{Demand3, Rearranged, SameEnd, answe
 use Rattle.call_rules.proofs.Demands.{How, all-done, how, refused-by}
 
 -- a call that is not refused and runs to its list's end
-module _ (lent : Lent) (budget : ℕ) (e : Ended) (enough : rows 2 (lent .steps) ≤ budget)
+module _ (lent : Lent) (budget : ℕ) (e : Ended) (enough : rows stepWidth (lent .steps) ≤ budget)
     (passes : first (wholeCall (lent .tables) (lent .steps) (lent .room)) ≡ 0)
     (is : e ≡ allDone (stepsDone lent budget) (sweep (lent .steps) (stepsDone lent budget) (lent .tables) (lent .room))) where
   abbrev list : ℕ
-  list = rows 2 (lent .steps)
+  list = rows stepWidth (lent .steps)
 
   abbrev given : List Answer
   given = answers stepOn (stepsOf lent) (lent .tables)
@@ -62,11 +63,11 @@ module _ (lent : Lent) (budget : ℕ) (e : Ended) (enough : rows 2 (lent .steps)
 
 module _ (one two : Lent) (m : Rearranged one two) where
   -- the lists are as long
-  as-many : rows 2 (two .steps) ≡ rows 2 (one .steps)
+  as-many : rows stepWidth (two .steps) ≡ rows stepWidth (one .steps)
   as-many =
-      sym (length-first (two .steps) (rows 2 (two .steps)))
+      sym (length-first (two .steps) (rows stepWidth (two .steps)))
       ∙ same-length (stepsOf one) (stepsOf two) (m .matching)
-      ∙ length-first (one .steps) (rows 2 (one .steps))
+      ∙ length-first (one .steps) (rows stepWidth (one .steps))
 
   -- the checks find the same
   alike : first (wholeCall (two .tables) (two .steps) (two .room)) ≡ first (wholeCall (one .tables) (one .steps) (one .room))
@@ -103,12 +104,12 @@ demand3 one two budget budget′ e e′ so so′ enough enough′ m = by-case (h
           same-refused = refuses two budget′ e′ enough′ z′ is′ ∙ rw (m .same-tables) (r .same-count isRefused) ∙ sym (refuses one budget e enough z is);
         }
       where
-        each : (i : ℕ) → i < rows 2 (one .steps) → SameOutcome stepOn (m .matching .there) noAnswer (stepsOf one) (stepsOf two) (one .tables)
+        each : (i : ℕ) → i < rows stepWidth (one .steps) → SameOutcome stepOn (m .matching .there) noAnswer (stepsOf one) (stepsOf two) (one .tables)
             → answerTo (m .matching .there i) e′ ≡ answerTo i e
         each i h r =
-            let inside : i < length (stepsOf one) = rw (length-first (one .steps) (rows 2 (one .steps))) h in
-            let there-inside : m .matching .there i < rows 2 (two .steps) =
-            rw (length-first (two .steps) (rows 2 (two .steps))) at (m .matching .there-inside i inside) in
+            let inside : i < length (stepsOf one) = rw (length-first (one .steps) (rows stepWidth (one .steps))) h in
+            let there-inside : m .matching .there i < rows stepWidth (two .steps) =
+            rw (length-first (two .steps) (rows stepWidth (two .steps))) at (m .matching .there-inside i inside) in
             tells two budget′ e′ enough′ z′ is′ (m .matching .there i) there-inside
             ∙ rw (m .same-tables) (r .same-answer i inside)
             ∙ sym (tells one budget e enough z is i h)

@@ -5,6 +5,7 @@ use native.Mathlib.Omega.{arith}
 use mathlib.Core.List.{List, [], _∷_}
 use mathlib.Core.Path.{_≡_, refl, sym, _∙_, ap, subst₂}
 use lib.ListN.{length}
+use Rattle.base_places.specs.Places.{stepWidth}
 use Rattle.base_rows.specs.Rows.{rows}
 use Rattle.list_tables.specs.Tables.{stepAs}
 use Rattle.list_tables.specs.declared.Step.{Step}
@@ -19,12 +20,12 @@ use Rattle.call_rules.specs.Demands.{stepsOf}
 use Rattle.call_rules.specs.Swapped.{OnlySwapsCovered, SwapsCovered, laidOut}
 
 -- what is laid out is read again
-laid-read : (xs : List Step) → firstSteps (laidOut xs) (rows 2 (laidOut xs)) ≡ xs
+laid-read : (xs : List Step) → firstSteps (laidOut xs) (rows stepWidth (laidOut xs)) ≡ xs
 unfolding laidOut
 laid-read [] = first-none []
 laid-read (x ∷ xs) =
     ap (firstSteps (x .contact ∷ x .kind ∷ laidOut xs)) (rows-more (x .contact) (x .kind) (laidOut xs))
-    ∙ first-front (x .contact) (x .kind) (laidOut xs) (rows 2 (laidOut xs))
+    ∙ first-front (x .contact) (x .kind) (laidOut xs) (rows stepWidth (laidOut xs))
     ∙ ap (λ (ss : List Step). x ∷ ss) (laid-read xs)
 
 -- two numbers a step, so lists that are as long are laid out as long

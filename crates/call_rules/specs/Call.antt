@@ -2,6 +2,7 @@
 use Prim.Native.Nat.{ℕ, min}
 use mathlib.Core.List.{List}
 use lib.Dec.{eqb}
+use Rattle.base_places.specs.Places.{stepWidth}
 use Rattle.base_words.specs.Choice.{if_then_else_}
 use Rattle.base_refusals.specs.Refusals.{first}
 use Rattle.base_rows.specs.Rows.{rows}
@@ -34,7 +35,7 @@ nothingDone number lent = end number 0 0 (lent .tables) (lent .room)
 
 -- "steps done is the smaller of budget and list length"
 abbrev pub stepsDone : Lent → ℕ → ℕ
-stepsDone lent budget = min budget (rows 2 (lent .steps))
+stepsDone lent budget = min budget (rows stepWidth (lent .steps))
 
 -- "otherwise steps done and the number of them refused"
 unfoldable pub allDone : ℕ → Swept → Ended

@@ -6,6 +6,7 @@ use mathlib.Core.Path.{_≡_}
 use mathlib.Core.List.{List}
 use mathlib.Core.Logic.{_≢_}
 use lib.Dec.{ltb}
+use Rattle.base_places.specs.Places.{answerWidth, stepWidth}
 use Rattle.base_refusals.specs.Refusals.{Exactly}
 use Rattle.base_rows.specs.Rows.{row, rows}
 use Rattle.list_cells.specs.Cells.{answerOf}
@@ -25,7 +26,7 @@ before lent i = finish stepOn (firstSteps (lent .steps) i) (lent .tables)
 
 -- what step i was answered, in row i of the room: its number and its branch
 abbrev pub answerTo : ℕ → Ended → Answer
-answerTo i e = answerOf (row 2 i (e .room))
+answerTo i e = answerOf (row answerWidth i (e .room))
 
 abbrev pub numberOf : ℕ → Ended → ℕ
 numberOf i e = answerTo i e .number
@@ -50,7 +51,7 @@ Demand2 lent budget e = e ≡ oneByOne lent budget
 
 -- all steps of a list, in its order
 abbrev pub stepsOf : Lent → List Step
-stepsOf lent = firstSteps (lent .steps) (rows 2 (lent .steps))
+stepsOf lent = firstSteps (lent .steps) (rows stepWidth (lent .steps))
 
 -- "Two lists of the same steps, in which any two steps that share a body or a contact stand in the same order", lent with the same tables.
 -- What two steps share is read off the tables as lent
@@ -58,10 +59,10 @@ pub record Rearranged (one two : Lent) : Type 0 where
   pub same-tables : two .tables ≡ one .tables
   pub matching : Reordered (Shares (one .tables)) (stepAs 0 0) (stepsOf one) (stepsOf two)
   -- numbers 1 and 4 look at the lists' and the rooms' sizes: each is a whole number of rows in both calls or in neither ..
-  pub steps-whole : uneven 2 (two .steps) ≡ uneven 2 (one .steps)
-  pub room-whole : uneven 2 (two .room) ≡ uneven 2 (one .room)
+  pub steps-whole : uneven stepWidth (two .steps) ≡ uneven stepWidth (one .steps)
+  pub room-whole : uneven answerWidth (two .room) ≡ uneven answerWidth (one .room)
   -- .. and the room is enough for the list in both or in neither
-  pub room-enough : ltb (rows 2 (two .room)) (rows 2 (two .steps)) ≡ ltb (rows 2 (one .room)) (rows 2 (one .steps))
+  pub room-enough : ltb (rows answerWidth (two .room)) (rows stepWidth (two .steps)) ≡ ltb (rows answerWidth (one .room)) (rows stepWidth (one .steps))
 
 -- they "give each step the same answer and end in the same bits": e and e′ are what the two calls left
 pub record SameEnd (one two : Lent) (m : Rearranged one two) (e e′ : Ended) : Type 0 where
@@ -78,5 +79,5 @@ pub record SameEnd (one two : Lent) (m : Rearranged one two) (e e′ : Ended) : 
 abbrev pub Demand3 : Type 0
 Demand3 =
     (one two : Lent) (budget budget′ : ℕ) (e e′ : Ended) → Demand2 one budget e → Demand2 two budget′ e′
-    → rows 2 (one .steps) ≤ budget → rows 2 (two .steps) ≤ budget′
+    → rows stepWidth (one .steps) ≤ budget → rows stepWidth (two .steps) ≤ budget′
     → (m : Rearranged one two) → SameEnd one two m e e′

@@ -2,8 +2,9 @@
 -- proofs/Demands.antt. Assumes nothing.
 use Prim.Native.Nat.{ℕ, _≤_}
 use mathlib.Core.Path.{_≡_}
+use Rattle.base_places.specs.Places.{answerWidth}
 use Rattle.base_rows.specs.Rows.{row}
 use Rattle.call_rules.specs.Call.{Ended, Lent}
 
 abbrev pub RoomKept : Lent → Ended → Type 0
-RoomKept lent e = (i : ℕ) → e .done ≤ i → row 2 i (e .room) ≡ row 2 i (lent .room)
+RoomKept lent e = (i : ℕ) → e .done ≤ i → row answerWidth i (e .room) ≡ row answerWidth i (lent .room)

@@ -4,6 +4,7 @@ use mathlib.Core.List.{List}
 use mathlib.Core.Logic.{_≢_}
 use mathlib.Core.Path.{_≡_, refl}
 use lib.ListN.{length}
+use Rattle.base_places.specs.Places.{answerWidth, stepWidth}
 use Rattle.base_rows.specs.Laws.{Keeps}
 use Rattle.base_rows.specs.Rows.{row, rows}
 use Rattle.base_rows.proofs.Laws.{as-long, other-rows, row-itself}
@@ -17,18 +18,18 @@ unfolding answerOf answerRow
 read-answer a = refl
 
 module _ (room : List ℕ) (i : ℕ) (a : Answer) where
-  keeps : Keeps 2 (λ (_ : List ℕ). answerRow a)
+  keeps : Keeps answerWidth (λ (_ : List ℕ). answerRow a)
   unfolding answerRow
   keeps r e = refl
 
-  pub answer-there : i < rows 2 room → row 2 i (putAnswer room i a) ≡ answerRow a
+  pub answer-there : i < rows answerWidth room → row stepWidth i (putAnswer room i a) ≡ answerRow a
   unfolding putAnswer
-  answer-there h = row-itself ℕ 2 i (λ _. answerRow a) room keeps h
+  answer-there h = row-itself ℕ answerWidth i (λ _. answerRow a) room keeps h
 
-  pub answer-elsewhere : (m : ℕ) → m ≢ i → row 2 m (putAnswer room i a) ≡ row 2 m room
+  pub answer-elsewhere : (m : ℕ) → m ≢ i → row answerWidth m (putAnswer room i a) ≡ row answerWidth m room
   unfolding putAnswer
-  answer-elsewhere m ne = other-rows ℕ 2 i (λ _. answerRow a) room keeps m ne
+  answer-elsewhere m ne = other-rows ℕ answerWidth i (λ _. answerRow a) room keeps m ne
 
   pub room-as-long : length (putAnswer room i a) ≡ length room
   unfolding putAnswer
-  room-as-long = as-long ℕ 2 i (λ _. answerRow a) room keeps
+  room-as-long = as-long ℕ answerWidth i (λ _. answerRow a) room keeps

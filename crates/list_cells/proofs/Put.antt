@@ -6,6 +6,7 @@ use lib.Ieee.{Float}
 use lib.ListN.{drop, take}
 use borrow.Author.Tests.{eq-eqb, ne-eqb}
 use borrow.Rule.Slice.PartMut.{putMid}
+use Rattle.base_places.specs.Places.{answerWidth, bodyWidth, floatsWidth}
 use Rattle.base_words.proofs.Pick as pick
 use Rattle.elem_velocity.specs.declared.SolverVel.{SolverVel}
 use Rattle.step_contact.specs.declared.Contact.{Contact}
@@ -20,32 +21,32 @@ module _ (bodies : List Float) (body : ℕ) (v : SolverVel) where
   unfolding putVel
   vel-of-floor floor = pick.take _ (eq-eqb body 65535 floor) refl
 
-  pub vel-put : {back : List Float} → (body ≡ 65535 → ⊥) → body < rows 3 bodies → back ≡ velRow v
-      → putMid (body * 3) (body * 3 + 3 - body * 3) bodies back ≡ putVel bodies body v
+  pub vel-put : {back : List Float} → (body ≡ 65535 → ⊥) → body < rows bodyWidth bodies → back ≡ velRow v
+      → putMid (body * bodyWidth) (body * bodyWidth + bodyWidth - body * bodyWidth) bodies back ≡ putVel bodies body v
   unfolding putVel
-  vel-put real h e = pick.pass _ (ne-eqb body 65535 real) (row-written 3 body bodies (λ _. velRow v) h e)
+  vel-put real h e = pick.pass _ (ne-eqb body 65535 real) (row-written bodyWidth body bodies (λ _. velRow v) h e)
 
-  pub vel-past : (body ≡ 65535 → ⊥) → rows 3 bodies ≤ body → bodies ≡ putVel bodies body v
+  pub vel-past : (body ≡ 65535 → ⊥) → rows bodyWidth bodies ≤ body → bodies ≡ putVel bodies body v
   unfolding putVel
-  vel-past real h = pick.pass _ (ne-eqb body 65535 real) (row-past 3 body bodies (λ _. velRow v) h)
+  vel-past real h = pick.pass _ (ne-eqb body 65535 real) (row-past bodyWidth body bodies (λ _. velRow v) h)
 
 -- impulses: into their row; where there is none
 module _ (floats : List Float) (k kind : ℕ) (c : Contact) where
-  pub impulses-put : {back : List Float} → k < rows 45 floats → back ≡ putContact kind c (take (k * 45 + 45 - k * 45) (drop (k * 45) floats))
-      → putMid (k * 45) (k * 45 + 45 - k * 45) floats back ≡ putImpulses floats k kind c
+  pub impulses-put : {back : List Float} → k < rows floatsWidth floats → back ≡ putContact kind c (take (k * floatsWidth + floatsWidth - k * floatsWidth) (drop (k * floatsWidth) floats))
+      → putMid (k * floatsWidth) (k * floatsWidth + floatsWidth - k * floatsWidth) floats back ≡ putImpulses floats k kind c
   unfolding putImpulses
-  impulses-put h e = row-written 45 k floats (putContact kind c) h e
+  impulses-put h e = row-written floatsWidth k floats (putContact kind c) h e
 
-  pub impulses-past : rows 45 floats ≤ k → floats ≡ putImpulses floats k kind c
+  pub impulses-past : rows floatsWidth floats ≤ k → floats ≡ putImpulses floats k kind c
   unfolding putImpulses
-  impulses-past h = row-past 45 k floats (putContact kind c) h
+  impulses-past h = row-past floatsWidth k floats (putContact kind c) h
 
 -- an answer: into its row; where there is none
 module _ (room : List ℕ) (i : ℕ) (a : Answer) where
-  pub answer-put : {back : List ℕ} → i < rows 2 room → back ≡ answerRow a → putMid (i * 2) (i * 2 + 2 - i * 2) room back ≡ putAnswer room i a
+  pub answer-put : {back : List ℕ} → i < rows answerWidth room → back ≡ answerRow a → putMid (i * answerWidth) (i * answerWidth + answerWidth - i * answerWidth) room back ≡ putAnswer room i a
   unfolding putAnswer
-  answer-put h e = row-written 2 i room (λ _. answerRow a) h e
+  answer-put h e = row-written answerWidth i room (λ _. answerRow a) h e
 
-  pub answer-past : rows 2 room ≤ i → room ≡ putAnswer room i a
+  pub answer-past : rows answerWidth room ≤ i → room ≡ putAnswer room i a
   unfolding putAnswer
-  answer-past h = row-past 2 i room (λ _. answerRow a) h
+  answer-past h = row-past answerWidth i room (λ _. answerRow a) h

@@ -6,12 +6,16 @@ use mathlib.Core.List.{List, [], _∷_}
 use lib.Dec.{ltb}
 use lib.Ieee.{Float}
 use lib.ListN.{getD, set}
+use Rattle.base_places.specs.Places.{answerWidth, bodyWidth, cells, floatsWidth, place, pointPlace, pointWidth}
+use Rattle.base_places.specs.declared.Cell.{Cell}
 use Rattle.base_words.specs.Choice.{if_then_else_}
 use Rattle.elem_velocity.specs.declared.SolverVel.{SolverVel}
+use Rattle.step_contact.specs.Cells.{inCell}
 use Rattle.step_contact.specs.Contact.{isFloor}
 use Rattle.step_contact.specs.declared.Contact.{Contact}
+use Rattle.step_contact.specs.declared.ContactHead.{ContactHead}
 use Rattle.step_contact.specs.declared.ContactPoint.{ContactPoint}
-use Rattle.step_kinds.specs.Writes.{presses, rubs}
+use Rattle.step_kinds.specs.Table.{stores}
 use Rattle.base_rows.specs.Rows.{onPart, onRow}
 use Rattle.list_cells.specs.declared.Answer.{Answer}
 
@@ -21,28 +25,34 @@ velRow v = v .linear .x ∷ v .linear .y ∷ v .angular ∷ []
 
 -- the floor "is never written"
 unfoldable pub putVel : List Float → ℕ → SolverVel → List Float
-putVel bodies body v = if isFloor body then bodies else onRow 3 body (λ _. velRow v) bodies
+putVel bodies body v = if isFloor body then bodies else onRow bodyWidth body (λ _. velRow v) bodies
 
 -- x at place i, if it is stored
 unfoldable pub putIf : Bool → ℕ → Float → List Float → List Float
 putIf stored i x l = if stored then set l i x else l
 
--- a point's impulses at their places among its 18 floats: the normal one at 5, the tangent one at 15
-unfoldable pub putPoint : Bool → Bool → ContactPoint → List Float → List Float
-putPoint normal tangent p l = putIf tangent 15 (p .«tangent_part» .impulse) (putIf normal 5 (p .«normal_part» .impulse) l)
+-- a point's cells at their places among its floats, those that are stored, one after the other
+unfoldable pub putCells : List Cell → (Cell → Bool) → ContactPoint → List Float → List Float
+putCells [] stored p l = l
+putCells (c ∷ cs) stored p l = putCells cs stored p (putIf (stored c) (place c) (inCell c p) l)
 
--- a contact's, at points below count, where the kind stores them: a's 18 floats stand at 9, b's at 27
+-- at a point's place: below count, the cells that the kind stores
+abbrev pub storing : ℕ → ContactHead → ℕ → Cell → Bool
+storing kind h p c = ltb p (h .count) && stores kind c
+
+unfoldable pub putPoint : ℕ → ContactHead → ℕ → ContactPoint → List Float → List Float
+putPoint kind h p point l = putCells cells (storing kind h p) point l
+
+-- a contact's, a then b
 unfoldable pub putContact : ℕ → Contact → List Float → List Float
 putContact kind c l =
-    let a-below = ltb 0 (c .head .count) in
-    let b-below = ltb 1 (c .head .count) in
-    let with-a = onPart 9 18 (putPoint (a-below && presses kind) (a-below && rubs kind) (c .a)) l in
-    onPart 27 18 (putPoint (b-below && presses kind) (b-below && rubs kind) (c .b)) with-a
+    let with-a = onPart (pointPlace 0) pointWidth (putPoint kind (c .head) 0 (c .a)) l in
+    onPart (pointPlace 1) pointWidth (putPoint kind (c .head) 1 (c .b)) with-a
 
 unfoldable pub putImpulses : List Float → ℕ → ℕ → Contact → List Float
-putImpulses floats k kind c = onRow 45 k (putContact kind c) floats
+putImpulses floats k kind c = onRow floatsWidth k (putContact kind c) floats
 
--- A step answers its number and a branch: 2 numbers, as they are read ..
+-- A step answers its number and a branch, as they are read ..
 unfoldable pub answerOf : List ℕ → Answer
 answerOf l = record { number = getD l 0 0; branch = getD l 1 0 }
 
@@ -51,4 +61,4 @@ unfoldable pub answerRow : Answer → List ℕ
 answerRow a = a .number ∷ a .branch ∷ []
 
 unfoldable pub putAnswer : List ℕ → ℕ → Answer → List ℕ
-putAnswer room i a = onRow 2 i (λ _. answerRow a) room
+putAnswer room i a = onRow answerWidth i (λ _. answerRow a) room

@@ -1,12 +1,22 @@
 // What a step writes into the lent stretches, cell by cell, and nothing else. A row that a table does
 // not have is not written, so no public function here asks anything of its caller.
+use base_places::ANSWER_WIDTH;
+use base_places::BODY_WIDTH;
+use base_places::Cell;
+use base_places::FLOATS_WIDTH;
+use base_places::POINT_A;
+use base_places::POINT_B;
 use elem_velocity::SolverVel;
 use step_contact::Contact;
+use step_contact::ContactHead;
 use step_contact::ContactPoint;
 use step_contact::FLOOR;
+use step_kinds::stores;
 ghost use mathlib.Core.Path.{_≡_};
 ghost use Prim.Native.Nat.{_<_};
 ghost use lib.ListN.{length};
+ghost use Rattle.base_places.specs.Places.{answerWidth, bodyWidth, floatsWidth, place, pointWidth};
+ghost use Rattle.step_contact.specs.Cells.{inCell};
 ghost use Rattle.list_cells.specs.Cells.{answerRow, putAnswer, putContact, putIf, putImpulses};
 ghost use Rattle.list_cells.specs.Cells.{putPoint, putVel, velRow};
 
@@ -17,7 +27,7 @@ pub struct Answer {
 }
 
 fn store_velocity(s: &mut [f32], v: SolverVel)
-    requires { ⌜ length (now s) ≡ 3 ⌝ }
+    requires { ⌜ length (now s) ≡ bodyWidth ⌝ }
     ensures { λ _. ⌜ now (s .exit) ≡ velRow v ⌝ }
 {
     s[0] = v.linear.x;
@@ -33,13 +43,13 @@ pub fn put_velocity(bodies: &mut [f32], body: u16, v: SolverVel)
         return;
     }
     let k = body as usize;
-    if k < bodies.len() / 3 {
-        let i = k * 3;
-        store_velocity(&mut bodies[i..i + 3], v);
+    if k < bodies.len() / BODY_WIDTH {
+        let i = k * BODY_WIDTH;
+        store_velocity(&mut bodies[i..i + BODY_WIDTH], v);
     }
 }
 
-// Cell i takes x if it is to be stored.
+// Place i takes x if it is to be stored.
 fn store_if(s: &mut [f32], i: usize, stored: bool, x: f32)
     requires { ⌜ i < length (now s) ⌝ }
     ensures { λ _. ⌜ now (s .exit) ≡ putIf stored i x (now (s .entry)) ⌝ }
@@ -49,41 +59,49 @@ fn store_if(s: &mut [f32], i: usize, stored: bool, x: f32)
     }
 }
 
-fn store_point(s: &mut [f32], normal: bool, tangent: bool, p: ContactPoint)
-    requires { ⌜ length (now s) ≡ 18 ⌝ }
-    ensures { λ _. ⌜ now (s .exit) ≡ putPoint normal tangent p (now (s .entry)) ⌝ }
+// A cell takes its float if it is to be stored.
+fn store_cell(s: &mut [f32], cell: Cell, stored: bool, p: ContactPoint)
+    requires { ⌜ length (now s) ≡ pointWidth ⌝ }
+    ensures { λ _. ⌜ now (s .exit) ≡ putIf stored (place cell) (inCell cell p) (now (s .entry)) ⌝ }
 {
-    store_if(s, 5, normal, p.normal_part.impulse);
-    store_if(s, 15, tangent, p.tangent_part.impulse);
+    store_if(s, cell.place(), stored, p.in_cell(cell));
+}
+
+// The cells that a kind stores, at the point of a place, if it is below count.
+fn store_point(s: &mut [f32], kind: u16, head: ContactHead, place: u16, p: ContactPoint)
+    requires { ⌜ length (now s) ≡ pointWidth ⌝ }
+    ensures { λ _. ⌜ now (s .exit) ≡ putPoint kind head place p (now (s .entry)) ⌝ }
+{
+    let below = place < head.count;
+    let normal = stores(kind, Cell::NormalImpulse);
+    let tangent = stores(kind, Cell::TangentImpulse);
+    store_cell(s, Cell::NormalImpulse, below & normal, p);
+    store_cell(s, Cell::TangentImpulse, below & tangent, p);
 }
 
 fn store_contact(s: &mut [f32], kind: u16, c: Contact)
-    requires { ⌜ length (now s) ≡ 45 ⌝ }
+    requires { ⌜ length (now s) ≡ floatsWidth ⌝ }
     ensures { λ _. ⌜ now (s .exit) ≡ putContact kind c (now (s .entry)) ⌝ }
 {
-    let count = c.head.count;
+    let head = c.head;
     let a = c.a;
     let b = c.b;
-    let presses = (kind == 1) | (kind == 3) | (kind == 4);
-    let rubs = kind == 2;
-    let a_below = 0 < count;
-    let b_below = 1 < count;
-    store_point(&mut s[9..27], a_below & presses, a_below & rubs, a);
-    store_point(&mut s[27..45], b_below & presses, b_below & rubs, b);
+    store_point(&mut s[POINT_A..POINT_B], kind, head, 0, a);
+    store_point(&mut s[POINT_B..FLOATS_WIDTH], kind, head, 1, b);
 }
 
-// The impulses that a step of a kind stores, into their cells of contact k's row.
+// What a step of a kind stores, into its cells of contact k's row.
 pub fn put_impulses(floats: &mut [f32], k: usize, kind: u16, c: Contact)
     ensures { λ _. ⌜ now (floats .exit) ≡ putImpulses (now (floats .entry)) k kind c ⌝ }
 {
-    if k < floats.len() / 45 {
-        let i = k * 45;
-        store_contact(&mut floats[i..i + 45], kind, c);
+    if k < floats.len() / FLOATS_WIDTH {
+        let i = k * FLOATS_WIDTH;
+        store_contact(&mut floats[i..i + FLOATS_WIDTH], kind, c);
     }
 }
 
 fn store_answer(s: &mut [u16], a: Answer)
-    requires { ⌜ length (now s) ≡ 2 ⌝ }
+    requires { ⌜ length (now s) ≡ answerWidth ⌝ }
     ensures { λ _. ⌜ now (s .exit) ≡ answerRow a ⌝ }
 {
     s[0] = a.number;
@@ -94,8 +112,8 @@ fn store_answer(s: &mut [u16], a: Answer)
 pub fn put_answer(room: &mut [u16], i: usize, a: Answer)
     ensures { λ _. ⌜ now (room .exit) ≡ putAnswer (now (room .entry)) i a ⌝ }
 {
-    if i < room.len() / 2 {
-        let j = i * 2;
-        store_answer(&mut room[j..j + 2], a);
+    if i < room.len() / ANSWER_WIDTH {
+        let j = i * ANSWER_WIDTH;
+        store_answer(&mut room[j..j + ANSWER_WIDTH], a);
     }
 }

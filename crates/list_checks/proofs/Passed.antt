@@ -4,6 +4,7 @@ use mathlib.Core.List.{List}
 use mathlib.Core.Bool.{true}
 use mathlib.Core.Path.{_≡_, refl}
 use borrow.Author.Tests.{ltb-false}
+use Rattle.base_places.specs.Places.{answerWidth, stepWidth}
 use Rattle.base_refusals.specs.Refusals.{first}
 use Rattle.base_refusals.specs.Distinct.{distinct, stands}
 use Rattle.base_refusals.proofs.Exact.{none-holds}
@@ -18,6 +19,6 @@ module _ (t : Tables) (steps room : List ℕ) where
   distinct-numbers = refl
 
   -- each step has its row in the room
-  pub room-enough : first (wholeCall t steps room) ≡ 0 → rows 2 steps ≤ rows 2 room
+  pub room-enough : first (wholeCall t steps room) ≡ 0 → rows stepWidth steps ≤ rows answerWidth room
   unfolding wholeCall
-  room-enough passed = ltb-false (rows 2 room) (rows 2 steps) (none-holds (wholeCall t steps room) distinct-numbers passed .1 .1 .1 .0)
+  room-enough passed = ltb-false (rows answerWidth room) (rows stepWidth steps) (none-holds (wholeCall t steps room) distinct-numbers passed .1 .1 .1 .0)

@@ -1,4 +1,12 @@
 // Numbers 1 to 4, which refuse a whole call: they look at all that is lent, before any step.
+use base_places::ANSWER_WIDTH;
+use base_places::BODY_WIDTH;
+use base_places::FLOATS_WIDTH;
+use base_places::MOST_BODIES;
+use base_places::MOST_CONTACTS;
+use base_places::MOST_STEPS;
+use base_places::NUMBERS_WIDTH;
+use base_places::STEP_WIDTH;
 use list_tables::Step;
 use list_tables::step_at;
 use step_shape::kind_above;
@@ -7,13 +15,6 @@ ghost use Rattle.base_refusals.specs.Refusals.{first};
 ghost use Rattle.list_rules.specs.Sweep.{tables};
 ghost use Rattle.list_checks.specs.Checks.{faulty, someFaulty, someUneven, tooMany};
 ghost use Rattle.list_checks.specs.Checks.{wholeCall, wrongSizes};
-
-// The most that a call takes.
-pub const MOST_BODIES: usize = 4096;
-
-pub const MOST_CONTACTS: usize = 16384;
-
-pub const MOST_STEPS: usize = 65536;
 
 // What is wrong with a step of a list, so that the whole list is refused.
 pub enum Fault {
@@ -24,26 +25,26 @@ pub enum Fault {
 fn too_many(bodies: &[f32], numbers: &[u16], floats: &[f32], steps: &[u16]) -> bool
     ensures { λ r. ⌜ r ≡ tooMany (tables (now (bodies .entry)) (now (numbers .entry)) (now (floats .entry))) (now (steps .entry)) ⌝ }
 {
-    (MOST_BODIES < bodies.len() / 3)
-        | (MOST_CONTACTS < floats.len() / 45)
-        | (MOST_STEPS < steps.len() / 2)
+    (MOST_BODIES < bodies.len() / BODY_WIDTH)
+        | (MOST_CONTACTS < floats.len() / FLOATS_WIDTH)
+        | (MOST_STEPS < steps.len() / STEP_WIDTH)
 }
 
 // A stretch is no whole number of rows.
 fn some_uneven(bodies: &[f32], numbers: &[u16], floats: &[f32], steps: &[u16], room: &[u16]) -> bool
     ensures { λ r. ⌜ r ≡ someUneven (tables (now (bodies .entry)) (now (numbers .entry)) (now (floats .entry))) (now (steps .entry)) (now (room .entry)) ⌝ }
 {
-    (bodies.len() % 3 != 0)
-        | (numbers.len() % 3 != 0)
-        | (floats.len() % 45 != 0)
-        | (steps.len() % 2 != 0)
-        | (room.len() % 2 != 0)
+    (bodies.len() % BODY_WIDTH != 0)
+        | (numbers.len() % NUMBERS_WIDTH != 0)
+        | (floats.len() % FLOATS_WIDTH != 0)
+        | (steps.len() % STEP_WIDTH != 0)
+        | (room.len() % ANSWER_WIDTH != 0)
 }
 
 fn wrong_sizes(bodies: &[f32], numbers: &[u16], floats: &[f32], steps: &[u16], room: &[u16]) -> bool
     ensures { λ r. ⌜ r ≡ wrongSizes (tables (now (bodies .entry)) (now (numbers .entry)) (now (floats .entry))) (now (steps .entry)) (now (room .entry)) ⌝ }
 {
-    let differ = numbers.len() / 3 != floats.len() / 45;
+    let differ = numbers.len() / NUMBERS_WIDTH != floats.len() / FLOATS_WIDTH;
     too_many(bodies, numbers, floats, steps)
         | some_uneven(bodies, numbers, floats, steps, room)
         | differ
@@ -62,7 +63,7 @@ fn faulty(fault: Fault, contacts: usize, s: Step) -> bool
 fn some_faulty(fault: Fault, contacts: usize, steps: &[u16]) -> bool
     ensures { λ r. ⌜ r ≡ someFaulty fault contacts (now (steps .entry)) ⌝ }
 {
-    let n = steps.len() / 2;
+    let n = steps.len() / STEP_WIDTH;
     let mut i = 0;
     while i < n {
         let s = step_at(steps, i);
@@ -84,7 +85,7 @@ pub fn whole_call(
 ) -> u16
     ensures { λ r. ⌜ r ≡ first (wholeCall (tables (now (bodies .entry)) (now (numbers .entry)) (now (floats .entry))) (now (steps .entry)) (now (room .entry))) ⌝ }
 {
-    let contacts = floats.len() / 45;
+    let contacts = floats.len() / FLOATS_WIDTH;
     if wrong_sizes(bodies, numbers, floats, steps, room) {
         return 1;
     }
@@ -94,7 +95,7 @@ pub fn whole_call(
     if some_faulty(Fault::KindAbove, contacts, steps) {
         return 3;
     }
-    if room.len() / 2 < steps.len() / 2 {
+    if room.len() / ANSWER_WIDTH < steps.len() / STEP_WIDTH {
         return 4;
     }
     0

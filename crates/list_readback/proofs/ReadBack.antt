@@ -6,12 +6,13 @@ use mathlib.Core.Bool.{true, false}
 use mathlib.Core.List.{List}
 use mathlib.Core.Path.{_≡_, refl, sym, _∙_, ap}
 use lib.Ieee.{Float}
+use Rattle.base_places.specs.Places.{bodyWidth, floatsWidth, numbersWidth}
 use Rattle.elem_velocity.specs.Velocity.{rest}
 use Rattle.elem_velocity.specs.declared.Vels.{Vels}
 use Rattle.step_contact.specs.Contact.{isFloor}
 use Rattle.step_contact.specs.declared.Contact.{Contact}
 use Rattle.step_contact.specs.declared.ContactHead.{ContactHead}
-use Rattle.step_kinds.specs.Writes.{presses, rubs}
+use Rattle.step_kinds.specs.Table.{stores}
 use Rattle.step_kinds.specs.Stored.{stored}
 use Rattle.step_shape.proofs.Bodies.{RightBodies, in-table, right-bodies}
 use Rattle.step_rules.specs.Step.{step}
@@ -31,28 +32,28 @@ use Rattle.list_rules.specs.Sweep.{itsContact, velsAt}
 use Rattle.list_rules.proofs.Done.{bodies-after, contact-after, done-there, its-contact, vels-are, vels-of}
 use Rattle.list_readback.specs.ReadBack.{ContactReadBack, VelocitiesReadBack}
 
-module _ (numbers : List ℕ) (floats : List Float) (k kind : ℕ) (new : Contact) (there : k < rows 45 floats)
+module _ (numbers : List ℕ) (floats : List Float) (k kind : ℕ) (new : Contact) (there : k < rows floatsWidth floats)
     (head : new .head ≡ contactAt numbers floats k .head) where
   -- the floats with them
   abbrev written : List Float
   written = putImpulses floats k kind new
 
   -- contact k with new impulses, read again, whether its row of numbers is there or not
-  row-back : contactAt numbers written k ≡ stored (presses kind) (rubs kind) (contactAt numbers floats k) new
-  row-back = by-case (decLt k (rows 3 numbers))
+  row-back : contactAt numbers written k ≡ stored (stores kind) (contactAt numbers floats k) new
+  row-back = by-case (decLt k (rows numbersWidth numbers))
     where
-      by-case : Dec (k < rows 3 numbers) → contactAt numbers written k ≡ stored (presses kind) (rubs kind) (contactAt numbers floats k) new
+      by-case : Dec (k < rows numbersWidth numbers) → contactAt numbers written k ≡ stored (stores kind) (contactAt numbers floats k) new
       by-case (yes h) =
-          let before : contactAt numbers floats k ≡ contactOf (row 3 k numbers) (row 45 k floats) = contact-there numbers floats k h there in
+          let before : contactAt numbers floats k ≡ contactOf (row numbersWidth k numbers) (row floatsWidth k floats) = contact-there numbers floats k h there in
           contact-there numbers written k h (rw (floats-as-long floats k kind new) there)
-          ∙ ap (contactOf (row 3 k numbers)) (impulses-written floats k kind new there)
-          ∙ contact-back (row 3 k numbers) kind new (row 45 k floats)
-          (length-part (k * 45) 45 floats (row-fits 45 k (λ l. l) floats there)) (head ∙ ap (λ (c : Contact). c .head) before)
-          ∙ sym (ap (λ (c : Contact). stored (presses kind) (rubs kind) c new) before)
+          ∙ ap (contactOf (row numbersWidth k numbers)) (impulses-written floats k kind new there)
+          ∙ contact-back (row numbersWidth k numbers) kind new (row floatsWidth k floats)
+          (length-part (k * floatsWidth) floatsWidth floats (row-fits floatsWidth k (λ l. l) floats there)) (head ∙ ap (λ (c : Contact). c .head) before)
+          ∙ sym (ap (λ (c : Contact). stored (stores kind) c new) before)
       by-case (no past) =
           sym (no-numbers numbers written k (omega arith) refl)
-          ∙ sym (zero-stays (presses kind) (rubs kind) new)
-          ∙ ap (λ (c : Contact). stored (presses kind) (rubs kind) c new) (no-numbers numbers floats k (omega arith) refl)
+          ∙ sym (zero-stays (stores kind) new)
+          ∙ ap (λ (c : Contact). stored (stores kind) c new) (no-numbers numbers floats k (omega arith) refl)
 
 -- the step's contact, with its new impulses
 pub contact-read-back : ContactReadBack
@@ -61,11 +62,11 @@ contact-read-back s t d done =
     let v = velsAt (t .bodies) (c .head) in
     let copies = done-there s t d done in
     let same : c ≡ contactAt (t .numbers) (t .floats) (s .contact) = its-contact s t in
-    let head = same-head-kept c (s .kind) v (rows 3 (t .bodies)) d (copies .1) in
+    let head = same-head-kept c (s .kind) v (rows bodyWidth (t .bodies)) d (copies .1) in
     contact-after s t d done
     ∙ row-back (t .numbers) (t .floats) (s .contact) (s .kind) (d .contact) (copies .0) (head ∙ ap (λ (x : Contact). x .head) same)
-    ∙ sym (ap (λ (x : Contact). stored (presses (s .kind)) (rubs (s .kind)) x (d .contact)) same)
-    ∙ sym (untouched c (s .kind) v (rows 3 (t .bodies)) d (copies .1))
+    ∙ sym (ap (λ (x : Contact). stored (stores (s .kind)) x (d .contact)) same)
+    ∙ sym (untouched c (s .kind) v (rows bodyWidth (t .bodies)) d (copies .1))
 
 -- the velocities of its bodies; the floor's is rest
 pub velocities-read-back : VelocitiesReadBack
@@ -85,7 +86,7 @@ velocities-read-back s t d done =
     v = velsAt (t .bodies) h
 
     n : ℕ
-    n = rows 3 (t .bodies)
+    n = rows bodyWidth (t .bodies)
 
     copies : step c (s .kind) v n ≡ Done d
     copies = done-there s t d done .1
@@ -109,8 +110,8 @@ velocities-read-back s t d done =
     still2 : isFloor (h .body2) ≡ true → d .vels .v2 ≡ rest
     still2 floor = kept .side2 floor ∙ vels-of (t .bodies) h .1 ∙ floor-rests (t .bodies) (h .body2) floor
 
-    there1 : isFloor (h .body1) ≡ false → h .body1 < rows 3 (t .bodies)
+    there1 : isFloor (h .body1) ≡ false → h .body1 < rows bodyWidth (t .bodies)
     there1 real = in-table (h .body1) n (right .found1) real
 
-    there2 : isFloor (h .body2) ≡ false → h .body2 < rows 3 after1
+    there2 : isFloor (h .body2) ≡ false → h .body2 < rows bodyWidth after1
     there2 real = rw (bodies-as-long (t .bodies) (h .body1) (d .vels .v1)) (in-table (h .body2) n (right .found2) real)

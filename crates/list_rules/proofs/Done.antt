@@ -6,6 +6,7 @@ use mathlib.Core.Path.{_≡_, refl, sym, ap}
 use borrow.Author.Tests.{ltb-true}
 use lib.Dec.{ltb}
 use lib.Ieee.{Float}
+use Rattle.base_places.specs.Places.{bodyWidth, floatsWidth}
 use Rattle.base_words.specs.Choice.{if_then_else_}
 use Rattle.elem_velocity.specs.declared.Vels.{Vels}
 use Rattle.step_contact.specs.declared.ContactHead.{ContactHead}
@@ -37,11 +38,11 @@ its-contact s t = refl
 
 module _ (s : Step) (t : Tables) (d : ContactSolved) (done : outcome s t ≡ Done d) where
   -- its contact is in the table, and the step on copies is done
-  pub done-there : (s .contact < rows 45 (t .floats))
-      × (step (itsContact s t) (s .kind) (velsAt (t .bodies) (itsContact s t .head)) (rows 3 (t .bodies)) ≡ Done d)
+  pub done-there : (s .contact < rows floatsWidth (t .floats))
+      × (step (itsContact s t) (s .kind) (velsAt (t .bodies) (itsContact s t .head)) (rows bodyWidth (t .bodies)) ≡ Done d)
   unfolding outcome
   done-there =
-      done-if-there (rows 45 (t .floats)) s (step (itsContact s t) (s .kind) (velsAt (t .bodies) (itsContact s t .head)) (rows 3 (t .bodies))) d done
+      done-if-there (rows floatsWidth (t .floats)) s (step (itsContact s t) (s .kind) (velsAt (t .bodies) (itsContact s t .head)) (rows bodyWidth (t .bodies))) d done
 
   -- its contact after it: the numbers as they were, the floats with its impulses
   pub contact-after : itsContact s (stepOn s t .after) ≡ contactAt (t .numbers) (putImpulses (t .floats) (s .contact) (s .kind) (d .contact)) (s .contact)

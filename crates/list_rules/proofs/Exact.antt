@@ -3,6 +3,7 @@ use mathlib.Core.Bool.{Bool, true, false, not}
 use mathlib.Core.List.{List, _∷_}
 use mathlib.Core.Path.{_≡_, refl, _∙_}
 use lib.Dec.{ltb}
+use Rattle.base_places.specs.Places.{bodyWidth, floatsWidth}
 use Rattle.base_words.specs.Choice.{if_then_else_}
 use Rattle.base_refusals.specs.Refusals.{Condition, _when_, first}
 use Rattle.base_refusals.specs.Distinct.{distinct, stands}
@@ -20,16 +21,16 @@ use Rattle.list_rules.proofs.Steps.{number-of}
 module _ (s : Step) (t : Tables) where
   number-first : stepOn s t .answer .number ≡ first (ofStep s t)
   unfolding ofStep
-  number-first = number-of s t ∙ by-case (ltb (s .contact) (rows 45 (t .floats)))
+  number-first = number-of s t ∙ by-case (ltb (s .contact) (rows floatsWidth (t .floats)))
     where
       c : Contact
       c = itsContact s t
 
       later : List Condition
-      later = conditions c (s .kind) (asRead (c .head) (velsAt (t .bodies) (c .head))) (rows 3 (t .bodies))
+      later = conditions c (s .kind) (asRead (c .head) (velsAt (t .bodies) (c .head))) (rows bodyWidth (t .bodies))
 
-      by-case : (b : Bool) → (if b then answer (step c (s .kind) (velsAt (t .bodies) (c .head)) (rows 3 (t .bodies))) else 2) ≡ first (2 when not b ∷ later)
-      by-case true = miss 2 later refl refl (answers-first c (s .kind) (velsAt (t .bodies) (c .head)) (rows 3 (t .bodies)))
+      by-case : (b : Bool) → (if b then answer (step c (s .kind) (velsAt (t .bodies) (c .head)) (rows bodyWidth (t .bodies))) else 2) ≡ first (2 when not b ∷ later)
+      by-case true = miss 2 later refl refl (answers-first c (s .kind) (velsAt (t .bodies) (c .head)) (rows bodyWidth (t .bodies)))
       by-case false = hit 2 later refl refl
 
   -- each number stands once

@@ -7,6 +7,7 @@ use mathlib.Core.Logic.{⊎-elim}
 use mathlib.Core.Path.{_≡_, refl, sym, _∙_, ap}
 use lib.ListN.{List·getD-append, getD, length}
 use lib.Seq.{getD-append-add}
+use Rattle.base_places.specs.Places.{answerWidth}
 use Rattle.base_rows.specs.Rows.{row, rows}
 use Rattle.list_tables.specs.Tables.{stepAt}
 use Rattle.list_cells.specs.Cells.{answerOf, answerRow, putAnswer}
@@ -49,23 +50,23 @@ module _ (steps : List ℕ) (t : Tables) (room : List ℕ) where
   as-many-rows (suc n) = ap length (room-suc n) ∙ room-as-long (roomAfter n) n (nextAnswer n) ∙ as-many-rows n
 
   -- row i has the answer of step i, once that is done
-  answer-row : (n i : ℕ) → i < n → n ≤ rows 2 room → row 2 i (roomAfter n) ≡ answerRow (nextAnswer i)
+  answer-row : (n i : ℕ) → i < n → n ≤ rows answerWidth room → row answerWidth i (roomAfter n) ≡ answerRow (nextAnswer i)
   answer-row zero i h fits = absurd (not-suc-le-zero h)
   answer-row (suc n) i h fits =
-      ap (row 2 i) (room-suc n)
+      ap (row answerWidth i) (room-suc n)
       ∙ ⊎-elim
       (λ e. rw e (answer-there (roomAfter n) n (nextAnswer n) (rw (as-many-rows n) (fits))))
       (λ lt. answer-elsewhere (roomAfter n) n (nextAnswer n) i (λ e. omega arith) ∙ answer-row n i lt (omega arith))
       (eq-or-lt-of-le (le-of-suc-le-suc h))
 
-  pub answer-read : (n i : ℕ) → i < n → n ≤ rows 2 room → answerOf (row 2 i (roomAfter n)) ≡ nextAnswer i
+  pub answer-read : (n i : ℕ) → i < n → n ≤ rows answerWidth room → answerOf (row answerWidth i (roomAfter n)) ≡ nextAnswer i
   answer-read n i h fits = ap answerOf (answer-row n i h fits) ∙ read-answer (nextAnswer i)
 
   -- room past the steps done isn't touched
-  pub room-past : (n i : ℕ) → n ≤ i → row 2 i (roomAfter n) ≡ row 2 i room
-  room-past zero i h = ap (row 2 i) room-none
+  pub room-past : (n i : ℕ) → n ≤ i → row answerWidth i (roomAfter n) ≡ row answerWidth i room
+  room-past zero i h = ap (row answerWidth i) room-none
   room-past (suc n) i h =
-      ap (row 2 i) (room-suc n) ∙ answer-elsewhere (roomAfter n) n (nextAnswer n) i (λ e. omega arith) ∙ room-past n i (omega arith)
+      ap (row answerWidth i) (room-suc n) ∙ answer-elsewhere (roomAfter n) n (nextAnswer n) i (λ e. omega arith) ∙ room-past n i (omega arith)
 
   -- step i's answer is the i-th of the answers, and that is what row i says
   given-at : (d : Answer) (n i : ℕ) → i < n → getD (answers stepOn (firstSteps steps n) t) i d ≡ nextAnswer i
@@ -93,7 +94,7 @@ module _ (steps : List ℕ) (t : Tables) (room : List ℕ) where
       at-front : i < n → getD (before ++ (last ∷ [])) i d ≡ getD before i d
       at-front lt = List·getD-append before (last ∷ []) d i (rw many lt)
 
-  pub answer-told : (d : Answer) (n i : ℕ) → i < n → n ≤ rows 2 room → answerOf (row 2 i (roomAfter n)) ≡ getD (answers stepOn (firstSteps steps n) t) i d
+  pub answer-told : (d : Answer) (n i : ℕ) → i < n → n ≤ rows answerWidth room → answerOf (row answerWidth i (roomAfter n)) ≡ getD (answers stepOn (firstSteps steps n) t) i d
   answer-told d n i h fits = answer-read n i h fits ∙ sym (given-at d n i h)
 
   -- as many are refused as have such an answer

@@ -6,6 +6,7 @@ use mathlib.Core.Logic.{_≢_}
 use mathlib.Core.Path.{_≡_, refl}
 use lib.Dec.{ltb}
 use lib.Ieee.{Float}
+use Rattle.base_places.specs.Places.{bodyWidth, floatsWidth}
 use Rattle.base_words.specs.Choice.{if_then_else_}
 use Rattle.elem_velocity.specs.declared.Vels.{Vels}
 use Rattle.step_contact.specs.declared.Contact.{Contact}
@@ -43,11 +44,11 @@ floats-written s o d floats e p = rw e p
 
 -- what a step is answered: 2, where its contact is not there, else what the step on copies answers
 pub number-of : (s : Step) (t : Tables) → stepOn s t .answer .number
-    ≡ (if ltb (s .contact) (rows 45 (t .floats))
-    then answer (step (itsContact s t) (s .kind) (velsAt (t .bodies) (itsContact s t .head)) (rows 3 (t .bodies))) else 2)
+    ≡ (if ltb (s .contact) (rows floatsWidth (t .floats))
+    then answer (step (itsContact s t) (s .kind) (velsAt (t .bodies) (itsContact s t .head)) (rows bodyWidth (t .bodies))) else 2)
 unfolding stepOn answered outcome ifThere
 number-of s t =
-    by-case (ltb (s .contact) (rows 45 (t .floats))) (step (itsContact s t) (s .kind) (velsAt (t .bodies) (itsContact s t .head)) (rows 3 (t .bodies)))
+    by-case (ltb (s .contact) (rows floatsWidth (t .floats))) (step (itsContact s t) (s .kind) (velsAt (t .bodies) (itsContact s t .head)) (rows bodyWidth (t .bodies)))
   where
     by-case : (b : Bool) (o : Outcome) → answer (if b then o else Refused 2) ≡ (if b then answer o else 2)
     by-case true o = refl

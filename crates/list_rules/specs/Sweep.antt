@@ -4,6 +4,7 @@ use mathlib.Core.Bool.{Bool, not}
 use mathlib.Core.List.{List, [], _∷_, _++_}
 use lib.Dec.{eqb, ltb}
 use lib.Ieee.{Float}
+use Rattle.base_places.specs.Places.{bodyWidth, floatsWidth}
 use Rattle.base_words.specs.Choice.{if_then_else_}
 use Rattle.elem_velocity.specs.declared.Vels.{Vels}
 use Rattle.step_contact.specs.declared.Contact.{Contact}
@@ -54,14 +55,14 @@ itsContact s t = contactAt (t .numbers) (t .floats) (s .contact)
 unfoldable pub outcome : Step → Tables → Outcome
 outcome s t =
     let c = itsContact s t in
-    ifThere (rows 45 (t .floats)) s (step c (s .kind) (velsAt (t .bodies) (c .head)) (rows 3 (t .bodies)))
+    ifThere (rows floatsWidth (t .floats)) s (step c (s .kind) (velsAt (t .bodies) (c .head)) (rows bodyWidth (t .bodies)))
 
 -- its numbers with their conditions, in the order of judging: 2, then those of the step on copies
 unfoldable pub ofStep : Step → Tables → List Condition
 ofStep s t =
     let c = itsContact s t in
-    2 when not (ltb (s .contact) (rows 45 (t .floats)))
-    ∷ conditions c (s .kind) (asRead (c .head) (velsAt (t .bodies) (c .head))) (rows 3 (t .bodies))
+    2 when not (ltb (s .contact) (rows floatsWidth (t .floats)))
+    ∷ conditions c (s .kind) (asRead (c .head) (velsAt (t .bodies) (c .head))) (rows bodyWidth (t .bodies))
 
 -- "A step answers its number and a branch"
 unfoldable pub answered : Outcome → Answer

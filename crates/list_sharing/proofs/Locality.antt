@@ -4,6 +4,7 @@ use mathlib.Core.Bool.{true}
 use mathlib.Core.List.{List}
 use mathlib.Core.Logic.{_⊎_, inl, inr}
 use mathlib.Core.Path.{_≡_, refl, sym, _∙_, ap, ap₂}
+use Rattle.base_places.specs.Places.{bodyWidth, floatsWidth, numbersWidth}
 use Rattle.base_words.proofs.Pick.{never}
 use Rattle.elem_velocity.specs.declared.Vels.{Vels}
 use Rattle.step_contact.proofs.Zeros.{zero-bodies}
@@ -32,16 +33,16 @@ shape-of p q r = cc
 
 pub same-shape : SameShape
 same-shape s t =
-    shape-of (after-numbers s t) (ap (rows 3) (after-bodies s t) ∙ bodies-as-many (itsContact s t .head) (outcome s t) (t .bodies))
-    (ap (rows 45) (after-floats s t) ∙ floats-as-many s (outcome s t) (t .floats))
+    shape-of (after-numbers s t) (ap (rows bodyWidth) (after-bodies s t) ∙ bodies-as-many (itsContact s t .head) (outcome s t) (t .bodies))
+    (ap (rows floatsWidth) (after-floats s t) ∙ floats-as-many s (outcome s t) (t .floats))
 
 pub frame : Frame
 frame s t (body b) other =
-    ap (row 3 b) (after-bodies s t)
+    ap (row bodyWidth b) (after-bodies s t)
     ∙ body-stays (itsContact s t .head) (outcome s t) (t .bodies) b
     (λ d done side real in-table. never (sym (own-body t s b (record { there = done-found s t d done; side = side }) real in-table) ∙ other))
 frame s t (contact k) other =
-    ap (row 45 k) (after-floats s t)
+    ap (row floatsWidth k) (after-floats s t)
     ∙ contact-stays s (outcome s t) (t .floats) k (λ d done e. never (sym (own s (done-found s t d done) e) ∙ other))
   where
     own : (s : Step) → There t (s .contact) → k ≡ s .contact → touches (shape t) s (contact k) ≡ true
@@ -72,16 +73,16 @@ module _ (s : Step) (t t′ : Tables) (agree : SameFor s t t′) where
       (look-at (itsContact s t .head .body2) (inr refl) ∙ sym (vels-of (t .bodies) (itsContact s t .head) .1))
 
   -- so the step on copies comes to the same
-  same-tried : step (itsContact s t′) (s .kind) (velsAt (t′ .bodies) (itsContact s t′ .head)) (rows 3 (t′ .bodies))
-      ≡ step (itsContact s t) (s .kind) (velsAt (t .bodies) (itsContact s t .head)) (rows 3 (t .bodies))
+  same-tried : step (itsContact s t′) (s .kind) (velsAt (t′ .bodies) (itsContact s t′ .head)) (rows bodyWidth (t′ .bodies))
+      ≡ step (itsContact s t) (s .kind) (velsAt (t .bodies) (itsContact s t .head)) (rows bodyWidth (t .bodies))
   same-tried = rw (same-contact, agree .as-many-bodies) (by-case (there-or-not s t))
     where
-      by-case : Dec (There t (s .contact)) → step (itsContact s t) (s .kind) (velsAt (t′ .bodies) (itsContact s t .head)) (rows 3 (t .bodies))
-          ≡ step (itsContact s t) (s .kind) (velsAt (t .bodies) (itsContact s t .head)) (rows 3 (t .bodies))
-      by-case (yes h) = ap (λ (v : Vels). step (itsContact s t) (s .kind) v (rows 3 (t .bodies))) (same-vels h)
+      by-case : Dec (There t (s .contact)) → step (itsContact s t) (s .kind) (velsAt (t′ .bodies) (itsContact s t .head)) (rows bodyWidth (t .bodies))
+          ≡ step (itsContact s t) (s .kind) (velsAt (t .bodies) (itsContact s t .head)) (rows bodyWidth (t .bodies))
+      by-case (yes h) = ap (λ (v : Vels). step (itsContact s t) (s .kind) v (rows bodyWidth (t .bodies))) (same-vels h)
       by-case (no nowhere) =
-          wrong-bodies-first (itsContact s t) (s .kind) (velsAt (t′ .bodies) (itsContact s t .head)) (velsAt (t .bodies) (itsContact s t .head)) (rows 3 (t .bodies))
-          (with-itself (itsContact s t .head) (rows 3 (t .bodies)) (rw (reads-zero s t nowhere) zero-bodies))
+          wrong-bodies-first (itsContact s t) (s .kind) (velsAt (t′ .bodies) (itsContact s t .head)) (velsAt (t .bodies) (itsContact s t .head)) (rows bodyWidth (t .bodies))
+          (with-itself (itsContact s t .head) (rows bodyWidth (t .bodies)) (rw (reads-zero s t nowhere) zero-bodies))
 
   same : outcome s t′ ≡ outcome s t
   same = same-outcome s t t′ (agree .as-many-contacts) same-tried
@@ -89,13 +90,13 @@ module _ (s : Step) (t t′ : Tables) (agree : SameFor s t t′) where
   -- what it leaves in a row that was the same is the same
   leaves : (p : Place) → look p t′ ≡ look p t → look p (stepOn s t′ .after) ≡ look p (stepOn s t .after)
   leaves (body b) e =
-      ap (row 3 b) (after-bodies s t′)
+      ap (row bodyWidth b) (after-bodies s t′)
       ∙ rw (same-contact, same) (body-local (itsContact s t .head) (outcome s t) (t .bodies) (t′ .bodies) (agree .as-many-bodies) b e)
-      ∙ sym (ap (row 3 b) (after-bodies s t))
+      ∙ sym (ap (row bodyWidth b) (after-bodies s t))
   leaves (contact k) e =
-      ap (row 45 k) (after-floats s t′)
+      ap (row floatsWidth k) (after-floats s t′)
       ∙ rw same (contact-local s (outcome s t) (t .floats) (t′ .floats) (agree .as-many-contacts) k e)
-      ∙ sym (ap (row 45 k) (after-floats s t))
+      ∙ sym (ap (row floatsWidth k) (after-floats s t))
 
 pub locality : Locality
 locality s t t′ agree = record {
@@ -106,10 +107,10 @@ locality s t t′ agree = record {
 -- tables of one shape that agree in a step's own rows have the same for it
 same-for : (s : Step) (t t′ : Tables) → Agree feet s t t′ → SameFor s t t′
 same-for s t t′ agree = record {
-  as-many-numbers = ap (λ (sh : Shape). rows 3 (sh .numbers)) (agree .same-shape);
+  as-many-numbers = ap (λ (sh : Shape). rows numbersWidth (sh .numbers)) (agree .same-shape);
   as-many-contacts = ap (λ (sh : Shape). sh .contacts) (agree .same-shape);
   as-many-bodies = ap (λ (sh : Shape). sh .bodies) (agree .same-shape);
-  own-numbers = ap (λ (sh : Shape). row 3 (s .contact) (sh .numbers)) (agree .same-shape);
+  own-numbers = ap (λ (sh : Shape). row numbersWidth (s .contact) (sh .numbers)) (agree .same-shape);
   own-rows = agree .same-there;
 }
 

@@ -6,6 +6,7 @@ use mathlib.Core.Path.{_≡_, refl, sym, _∙_}
 use lib.Dec.{eqb, ltb}
 use lib.ListN.{getD}
 use borrow.Author.Tests.{eq-eqb, eqb-true, lt-ltb, ltb-true}
+use Rattle.base_places.specs.Places.{bodyWidth, floatsWidth, numbersWidth}
 use Rattle.base_words.proofs.Pick.{never}
 use Rattle.step_contact.specs.Contact.{isFloor}
 use Rattle.base_rows.specs.Rows.{row, rows}
@@ -41,33 +42,33 @@ not-hold false e = refl
 module _ (t : Tables) (k : ℕ) where
   is-contact : There t k → isContact (shape t) k ≡ true
   unfolding isContact
-  is-contact h = simp (lt-ltb k (rows 3 (t .numbers)) (h .0), lt-ltb k (rows 45 (t .floats)) (h .1))
+  is-contact h = simp (lt-ltb k (rows numbersWidth (t .numbers)) (h .0), lt-ltb k (rows floatsWidth (t .floats)) (h .1))
 
   contact-is : isContact (shape t) k ≡ true → There t k
   unfolding isContact
   contact-is e =
-      let both = hold-both (ltb k (rows 3 (t .numbers))) (ltb k (rows 45 (t .floats))) e in
-      (ltb-true k (rows 3 (t .numbers)) (both .0), ltb-true k (rows 45 (t .floats)) (both .1))
+      let both = hold-both (ltb k (rows numbersWidth (t .numbers))) (ltb k (rows floatsWidth (t .floats))) e in
+      (ltb-true k (rows numbersWidth (t .numbers)) (both .0), ltb-true k (rows floatsWidth (t .floats)) (both .1))
 
 -- a body of the table that is not the floor
 module _ (t : Tables) (b : ℕ) where
-  is-body : isFloor b ≡ false → b < rows 3 (t .bodies) → isBody (shape t) b ≡ true
+  is-body : isFloor b ≡ false → b < rows bodyWidth (t .bodies) → isBody (shape t) b ≡ true
   unfolding isBody
-  is-body real h = simp (real, lt-ltb b (rows 3 (t .bodies)) h)
+  is-body real h = simp (real, lt-ltb b (rows bodyWidth (t .bodies)) h)
 
-  body-is : isBody (shape t) b ≡ true → (isFloor b ≡ false) × (b < rows 3 (t .bodies))
+  body-is : isBody (shape t) b ≡ true → (isFloor b ≡ false) × (b < rows bodyWidth (t .bodies))
   unfolding isBody
   body-is e =
-      let both = hold-both (ltb b (rows 3 (t .bodies))) (not (isFloor b)) e in
-      (not-hold (isFloor b) (both .1), ltb-true b (rows 3 (t .bodies)) (both .0))
+      let both = hold-both (ltb b (rows bodyWidth (t .bodies))) (not (isFloor b)) e in
+      (not-hold (isFloor b) (both .1), ltb-true b (rows bodyWidth (t .bodies)) (both .0))
 
 module _ (t : Tables) (s : Step) where
   -- the two body numbers of the step's contact
   abbrev one : ℕ
-  one = getD (row 3 (s .contact) (t .numbers)) 0 0
+  one = getD (row numbersWidth (s .contact) (t .numbers)) 0 0
 
   abbrev two : ℕ
-  two = getD (row 3 (s .contact) (t .numbers)) 1 0
+  two = getD (row numbersWidth (s .contact) (t .numbers)) 1 0
 
   joined : (b : ℕ) → Names t s b → joins (shape t) (s .contact) b ≡ true
   unfolding joins
@@ -97,12 +98,12 @@ module _ (t : Tables) (s : Step) where
       (eqb-true k (s .contact) (both .0), contact-is t k (both .1))
 
   -- so is each body that it joins, if that is in the table and not the floor ..
-  pub own-body : (b : ℕ) → Names t s b → isFloor b ≡ false → b < rows 3 (t .bodies) → touches (shape t) s (body b) ≡ true
+  pub own-body : (b : ℕ) → Names t s b → isFloor b ≡ false → b < rows bodyWidth (t .bodies) → touches (shape t) s (body b) ≡ true
   unfolding touches
   own-body b n real h = simp (is-contact t (s .contact) (n .there), joined b n, is-body t b real h)
 
   -- .. and no other
-  pub body-own : (b : ℕ) → touches (shape t) s (body b) ≡ true → Names t s b × (isFloor b ≡ false) × (b < rows 3 (t .bodies))
+  pub body-own : (b : ℕ) → touches (shape t) s (body b) ≡ true → Names t s b × (isFloor b ≡ false) × (b < rows bodyWidth (t .bodies))
   unfolding touches
   body-own b e =
       let all = hold-both (isContact (shape t) (s .contact) && joins (shape t) (s .contact) b) (isBody (shape t) b) e in

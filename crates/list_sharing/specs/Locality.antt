@@ -2,6 +2,7 @@
 -- in proofs/Locality.antt (`NothingHidden` in proofs/Whole.antt). Assumes nothing.
 use mathlib.Core.Bool.{true}
 use mathlib.Core.Path.{_≡_}
+use Rattle.base_places.specs.Places.{bodyWidth, floatsWidth, numbersWidth}
 use Rattle.base_rows.specs.Rows.{row, rows}
 use Rattle.list_tables.specs.declared.Step.{Step}
 use Rattle.base_order.specs.Local.{AllThere, SameDone, ShapeKept, WritesOwn}
@@ -18,10 +19,10 @@ Frame = WritesOwn feet
 
 -- two tables have the same in all that step s looks at: its contact's numbers, the rows that are its own, and how many rows there are
 pub record SameFor (s : Step) (t t′ : Tables) : Type 0 where
-  pub as-many-numbers : rows 3 (t′ .numbers) ≡ rows 3 (t .numbers)
-  pub as-many-contacts : rows 45 (t′ .floats) ≡ rows 45 (t .floats)
-  pub as-many-bodies : rows 3 (t′ .bodies) ≡ rows 3 (t .bodies)
-  pub own-numbers : row 3 (s .contact) (t′ .numbers) ≡ row 3 (s .contact) (t .numbers)
+  pub as-many-numbers : rows numbersWidth (t′ .numbers) ≡ rows numbersWidth (t .numbers)
+  pub as-many-contacts : rows floatsWidth (t′ .floats) ≡ rows floatsWidth (t .floats)
+  pub as-many-bodies : rows bodyWidth (t′ .bodies) ≡ rows bodyWidth (t .bodies)
+  pub own-numbers : row numbersWidth (s .contact) (t′ .numbers) ≡ row numbersWidth (s .contact) (t .numbers)
   pub own-rows : (p : Place) → touches (shape t) s p ≡ true → look p t′ ≡ look p t
 
 -- locality: what a step reads is that. So it gives the same answer, and leaves the same in its own rows

@@ -7,6 +7,7 @@ use mathlib.Core.Logic.{_↔_}
 use lib.Dec.{eqb, ltb}
 use lib.Ieee.{Float}
 use lib.ListN.{getD}
+use Rattle.base_places.specs.Places.{bodyWidth, floatsWidth, numbersWidth}
 use Rattle.step_contact.specs.Contact.{isFloor}
 use Rattle.base_rows.specs.Rows.{row, rows}
 use Rattle.list_tables.specs.declared.Step.{Step}
@@ -23,11 +24,11 @@ pub record Shape : Type 0 where
   pub contacts : ℕ
 
 abbrev pub shape : Tables → Shape
-shape t = record { numbers = t .numbers; bodies = rows 3 (t .bodies); contacts = rows 45 (t .floats) }
+shape t = record { numbers = t .numbers; bodies = rows bodyWidth (t .bodies); contacts = rows floatsWidth (t .floats) }
 
 -- a contact of the table: it has a row of numbers and a row of floats
 unfoldable pub isContact : Shape → ℕ → Bool
-isContact sh k = ltb k (rows 3 (sh .numbers)) && ltb k (sh .contacts)
+isContact sh k = ltb k (rows numbersWidth (sh .numbers)) && ltb k (sh .contacts)
 
 -- a body of the table that is not the floor
 unfoldable pub isBody : Shape → ℕ → Bool
@@ -35,7 +36,7 @@ isBody sh b = ltb b (sh .bodies) && not (isFloor b)
 
 -- the two bodies that contact k joins
 unfoldable pub joins : Shape → ℕ → ℕ → Bool
-joins sh k b = eqb b (getD (row 3 k (sh .numbers)) 0 0) || eqb b (getD (row 3 k (sh .numbers)) 1 0)
+joins sh k b = eqb b (getD (row numbersWidth k (sh .numbers)) 0 0) || eqb b (getD (row numbersWidth k (sh .numbers)) 1 0)
 
 -- the places of the tables: a body's row, a contact's row of floats
 pub data Place : Type 0 where
@@ -43,8 +44,8 @@ pub data Place : Type 0 where
   contact : ℕ → Place
 
 abbrev pub look : Place → Tables → List Float
-look (body b) t = row 3 b (t .bodies)
-look (contact k) t = row 45 k (t .floats)
+look (body b) t = row bodyWidth b (t .bodies)
+look (contact k) t = row floatsWidth k (t .floats)
 
 -- a step's own places: the contact that it names, and the bodies that this contact joins. A number outside its table is none, and
 -- neither is the floor

@@ -2,6 +2,7 @@
 use Prim.Native.Nat.{ℕ, _≤_}
 use mathlib.Core.Logic.{_≢_, _⊎_}
 use mathlib.Core.Path.{_≡_}
+use Rattle.base_places.specs.Places.{bodyWidth}
 use Rattle.base_rows.specs.Rows.{rows}
 use Rattle.list_tables.specs.declared.Step.{Step}
 use Rattle.list_rules.specs.Sweep.{Tables}
@@ -11,4 +12,4 @@ use Rattle.list_sharing.specs.Sharing.{Names, Shares}
 abbrev pub FloorUnshared : Type 0
 FloorUnshared =
     (t : Tables) (s u : Step) → s .contact ≢ u .contact
-    → ((b : ℕ) → Names t s b → Names t u b → (b ≡ 65535) ⊎ (rows 3 (t .bodies) ≤ b)) → ¬ Shares t s u
+    → ((b : ℕ) → Names t s b → Names t u b → (b ≡ 65535) ⊎ (rows bodyWidth (t .bodies) ≤ b)) → ¬ Shares t s u

@@ -4,6 +4,7 @@ use mathlib.Core.List.{List}
 use mathlib.Core.Path.{_≡_}
 use lib.Ieee.{Float}
 use lib.ListN.{take, drop}
+use Rattle.base_places.specs.Places.{floatsWidth, numbersWidth}
 use Rattle.elem_tangent.specs.declared.ContactConstraintTangentPart.{ContactConstraintTangentPart}
 use Rattle.elem_normal.specs.declared.ContactConstraintNormalPart.{ContactConstraintNormalPart}
 use Rattle.step_contact.specs.Contact.{contactZero}
@@ -27,20 +28,20 @@ module _ (l : List Float) where
 
 -- contact k by which of its rows are there
 module _ (numbers : List ℕ) (floats : List Float) (k : ℕ) {c : Contact} where
-  pub no-numbers : rows 3 numbers ≤ k → c ≡ contactZero → c ≡ contactAt numbers floats k
+  pub no-numbers : rows numbersWidth numbers ≤ k → c ≡ contactZero → c ≡ contactAt numbers floats k
   unfolding contactAt
-  no-numbers h e = read-past 3 k numbers (λ ids. readRow 45 k (contactOf ids) contactZero floats) contactZero h e
+  no-numbers h e = read-past numbersWidth k numbers (λ ids. readRow floatsWidth k (contactOf ids) contactZero floats) contactZero h e
 
-  pub no-floats : k < rows 3 numbers → rows 45 floats ≤ k → c ≡ contactZero → c ≡ contactAt numbers floats k
+  pub no-floats : k < rows numbersWidth numbers → rows floatsWidth floats ≤ k → c ≡ contactZero → c ≡ contactAt numbers floats k
   unfolding contactAt
   no-floats h i e =
-      read-there 3 k numbers (λ ids. readRow 45 k (contactOf ids) contactZero floats) contactZero h
-      (read-past 45 k floats (contactOf (take (k * 3 + 3 - k * 3) (drop (k * 3) numbers))) contactZero i e)
+      read-there 3 k numbers (λ ids. readRow floatsWidth k (contactOf ids) contactZero floats) contactZero h
+      (read-past floatsWidth k floats (contactOf (take (k * 3 + 3 - k * 3) (drop (k * 3) numbers))) contactZero i e)
 
-  pub both-there : k < rows 3 numbers → k < rows 45 floats
+  pub both-there : k < rows numbersWidth numbers → k < rows floatsWidth floats
       → c ≡ contactOf (take (k * 3 + 3 - k * 3) (drop (k * 3) numbers)) (take (k * 45 + 45 - k * 45) (drop (k * 45) floats))
       → c ≡ contactAt numbers floats k
   unfolding contactAt
   both-there h i e =
-      read-there 3 k numbers (λ ids. readRow 45 k (contactOf ids) contactZero floats) contactZero h
+      read-there 3 k numbers (λ ids. readRow floatsWidth k (contactOf ids) contactZero floats) contactZero h
       (read-there 45 k floats (contactOf (take (k * 3 + 3 - k * 3) (drop (k * 3) numbers))) contactZero i e)

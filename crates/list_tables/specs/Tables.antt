@@ -3,6 +3,7 @@ use Prim.Native.Nat.{ℕ}
 use mathlib.Core.List.{List}
 use lib.Ieee.{Float, nan}
 use lib.ListN.{getD}
+use Rattle.base_places.specs.Places.{accumulatorPlace, bodyWidth, floatsWidth, headWidth, impulsePlace, normalWidth, numbersWidth, pointPlace, pointWidth, stepWidth, tangentWidth}
 use Rattle.base_words.specs.Choice.{if_then_else_}
 use Rattle.elem_leaves.specs.Leaves.{vec}
 use Rattle.elem_velocity.specs.Velocity.{rest}
@@ -20,15 +21,15 @@ use Rattle.list_tables.specs.declared.Step.{Step}
 abbrev pub at : List Float → ℕ → Float
 at l i = getD l i nan
 
--- A body has velocity x, y and angular w: 3 floats
+-- A body has velocity x, y and angular w
 unfoldable pub velOf : List Float → SolverVel
 velOf l = record { linear = vec (at l 0) (at l 1); angular = at l 2 }
 
 -- Body number 65535 is the floor: it reads as zero velocity; so does a number that the table does not have
 unfoldable pub velAt : List Float → ℕ → SolverVel
-velAt bodies body = if isFloor body then rest else readRow 3 body velOf rest bodies
+velAt bodies body = if isFloor body then rest else readRow bodyWidth body velOf rest bodies
 
--- Each contact: two body numbers, point count (3 numbers); dir, im1, im2 (two floats each), friction, k12, flag (9 floats)
+-- Each contact: two body numbers, point count; dir, im1, im2 (two floats each), friction, k12, flag
 unfoldable pub headOf : List ℕ → List Float → ContactHead
 headOf numbers l = record {
   body1 = getD numbers 0 0;
@@ -50,8 +51,8 @@ normalOf l = record {
   «ii_torque_dir1» = at l 2;
   «ii_torque_dir2» = at l 3;
   rhs = at l 4;
-  impulse = at l 5;
-  «impulse_accumulator» = at l 6;
+  impulse = at l impulsePlace;
+  «impulse_accumulator» = at l accumulatorPlace;
   r = at l 7;
   «cfm_factor» = at l 8;
   seed = at l 9;
@@ -65,24 +66,31 @@ tangentOf l = record {
   «ii_torque_dir1» = at l 2;
   «ii_torque_dir2» = at l 3;
   rhs = at l 4;
-  impulse = at l 5;
-  «impulse_accumulator» = at l 6;
+  impulse = at l impulsePlace;
+  «impulse_accumulator» = at l accumulatorPlace;
   r = at l 7;
 }
 
--- for each of two points: 18 floats
+-- for each of two points
 unfoldable pub pointOf : List Float → ContactPoint
-pointOf l = record { «normal_part» = normalOf (part 0 10 l); «tangent_part» = tangentOf (part 10 8 l) }
+pointOf l = record {
+  «normal_part» = normalOf (part 0 normalWidth l);
+  «tangent_part» = tangentOf (part normalWidth tangentWidth l);
+}
 
--- 9 floats of the head, 18 of point a, the first, and 18 of b, the second: 45
+-- the head, point a, the first, and b, the second
 unfoldable pub contactOf : List ℕ → List Float → Contact
-contactOf numbers l = record { head = headOf numbers (part 0 9 l); a = pointOf (part 9 18 l); b = pointOf (part 27 18 l) }
+contactOf numbers l = record {
+  head = headOf numbers (part 0 headWidth l);
+  a = pointOf (part (pointPlace 0) pointWidth l);
+  b = pointOf (part (pointPlace 1) pointWidth l);
+}
 
 -- contact k: its row of numbers and its row of floats
 unfoldable pub contactAt : List ℕ → List Float → ℕ → Contact
-contactAt numbers floats k = readRow 3 k (λ ids. readRow 45 k (contactOf ids) contactZero floats) contactZero numbers
+contactAt numbers floats k = readRow numbersWidth k (λ ids. readRow floatsWidth k (contactOf ids) contactZero floats) contactZero numbers
 
--- A step is a contact number and a kind: 2 numbers
+-- A step is a contact number and a kind
 abbrev pub stepAs : ℕ → ℕ → Step
 stepAs contact kind = record { contact = contact; kind = kind }
 
@@ -90,4 +98,4 @@ unfoldable pub stepOf : List ℕ → Step
 stepOf l = stepAs (getD l 0 0) (getD l 1 0)
 
 unfoldable pub stepAt : List ℕ → ℕ → Step
-stepAt steps i = readRow 2 i stepOf (stepAs 0 0) steps
+stepAt steps i = readRow stepWidth i stepOf (stepAs 0 0) steps

@@ -1,5 +1,16 @@
 // The lent stretches as tables of rows: a row is lent as a part and read as a record. A row that a
 // table does not have reads as zero, so no public function here asks anything of its caller.
+use base_places::ACCUMULATOR;
+use base_places::BODY_WIDTH;
+use base_places::FLOATS_WIDTH;
+use base_places::HEAD_WIDTH;
+use base_places::IMPULSE;
+use base_places::NORMAL_WIDTH;
+use base_places::NUMBERS_WIDTH;
+use base_places::POINT_A;
+use base_places::POINT_B;
+use base_places::POINT_WIDTH;
+use base_places::STEP_WIDTH;
 use elem_leaves::Vec2;
 use elem_normal::ContactConstraintNormalPart;
 use elem_tangent::ContactConstraintTangentPart;
@@ -10,6 +21,8 @@ use step_contact::ContactPoint;
 use step_contact::FLOOR;
 ghost use mathlib.Core.Path.{_≡_};
 ghost use lib.ListN.{length};
+ghost use Rattle.base_places.specs.Places.{bodyWidth, floatsWidth, headWidth, normalWidth, numbersWidth};
+ghost use Rattle.base_places.specs.Places.{pointWidth, stepWidth, tangentWidth};
 ghost use Rattle.list_tables.specs.Tables.{contactAt, contactOf, headOf, normalOf, pointOf};
 ghost use Rattle.list_tables.specs.Tables.{stepAt, stepOf, tangentOf, velAt, velOf};
 
@@ -20,7 +33,7 @@ pub struct Step {
 }
 
 fn velocity_of(s: &[f32]) -> SolverVel
-    requires { ⌜ length (now s) ≡ 3 ⌝ }
+    requires { ⌜ length (now s) ≡ bodyWidth ⌝ }
     ensures { λ r. ⌜ r ≡ velOf (now (s .entry)) ⌝ }
 {
     SolverVel {
@@ -37,16 +50,16 @@ pub fn velocity_at(bodies: &[f32], body: u16) -> SolverVel
         return SolverVel::zero();
     }
     let k = body as usize;
-    if k < bodies.len() / 3 {
-        let i = k * 3;
-        return velocity_of(&bodies[i..i + 3]);
+    if k < bodies.len() / BODY_WIDTH {
+        let i = k * BODY_WIDTH;
+        return velocity_of(&bodies[i..i + BODY_WIDTH]);
     }
     SolverVel::zero()
 }
 
 fn head_of(numbers: &[u16], s: &[f32]) -> ContactHead
-    requires { ⌜ length (now numbers) ≡ 3 ⌝ }
-    requires { ⌜ length (now s) ≡ 9 ⌝ }
+    requires { ⌜ length (now numbers) ≡ numbersWidth ⌝ }
+    requires { ⌜ length (now s) ≡ headWidth ⌝ }
     ensures { λ r. ⌜ r ≡ headOf (now (numbers .entry)) (now (s .entry)) ⌝ }
 {
     ContactHead {
@@ -63,7 +76,7 @@ fn head_of(numbers: &[u16], s: &[f32]) -> ContactHead
 }
 
 fn normal_of(s: &[f32]) -> ContactConstraintNormalPart
-    requires { ⌜ length (now s) ≡ 10 ⌝ }
+    requires { ⌜ length (now s) ≡ normalWidth ⌝ }
     ensures { λ r. ⌜ r ≡ normalOf (now (s .entry)) ⌝ }
 {
     ContactConstraintNormalPart {
@@ -72,8 +85,8 @@ fn normal_of(s: &[f32]) -> ContactConstraintNormalPart
         ii_torque_dir1: s[2],
         ii_torque_dir2: s[3],
         rhs: s[4],
-        impulse: s[5],
-        impulse_accumulator: s[6],
+        impulse: s[IMPULSE],
+        impulse_accumulator: s[ACCUMULATOR],
         r: s[7],
         cfm_factor: s[8],
         seed: s[9],
@@ -81,7 +94,7 @@ fn normal_of(s: &[f32]) -> ContactConstraintNormalPart
 }
 
 fn tangent_of(s: &[f32]) -> ContactConstraintTangentPart
-    requires { ⌜ length (now s) ≡ 8 ⌝ }
+    requires { ⌜ length (now s) ≡ tangentWidth ⌝ }
     ensures { λ r. ⌜ r ≡ tangentOf (now (s .entry)) ⌝ }
 {
     ContactConstraintTangentPart {
@@ -90,18 +103,18 @@ fn tangent_of(s: &[f32]) -> ContactConstraintTangentPart
         ii_torque_dir1: s[2],
         ii_torque_dir2: s[3],
         rhs: s[4],
-        impulse: s[5],
-        impulse_accumulator: s[6],
+        impulse: s[IMPULSE],
+        impulse_accumulator: s[ACCUMULATOR],
         r: s[7],
     }
 }
 
 fn point_of(s: &[f32]) -> ContactPoint
-    requires { ⌜ length (now s) ≡ 18 ⌝ }
+    requires { ⌜ length (now s) ≡ pointWidth ⌝ }
     ensures { λ r. ⌜ r ≡ pointOf (now (s .entry)) ⌝ }
 {
-    let normal_part = normal_of(&s[0..10]);
-    let tangent_part = tangent_of(&s[10..18]);
+    let normal_part = normal_of(&s[0..NORMAL_WIDTH]);
+    let tangent_part = tangent_of(&s[NORMAL_WIDTH..POINT_WIDTH]);
     ContactPoint {
         normal_part,
         tangent_part,
@@ -109,13 +122,13 @@ fn point_of(s: &[f32]) -> ContactPoint
 }
 
 fn contact_of(numbers: &[u16], s: &[f32]) -> Contact
-    requires { ⌜ length (now numbers) ≡ 3 ⌝ }
-    requires { ⌜ length (now s) ≡ 45 ⌝ }
+    requires { ⌜ length (now numbers) ≡ numbersWidth ⌝ }
+    requires { ⌜ length (now s) ≡ floatsWidth ⌝ }
     ensures { λ r. ⌜ r ≡ contactOf (now (numbers .entry)) (now (s .entry)) ⌝ }
 {
-    let head = head_of(numbers, &s[0..9]);
-    let a = point_of(&s[9..27]);
-    let b = point_of(&s[27..45]);
+    let head = head_of(numbers, &s[0..HEAD_WIDTH]);
+    let a = point_of(&s[POINT_A..POINT_B]);
+    let b = point_of(&s[POINT_B..FLOATS_WIDTH]);
     Contact { head, a, b }
 }
 
@@ -123,19 +136,22 @@ fn contact_of(numbers: &[u16], s: &[f32]) -> Contact
 pub fn contact_at(numbers: &[u16], floats: &[f32], k: usize) -> Contact
     ensures { λ r. ⌜ r ≡ contactAt (now (numbers .entry)) (now (floats .entry)) k ⌝ }
 {
-    if numbers.len() / 3 <= k {
+    if numbers.len() / NUMBERS_WIDTH <= k {
         return Contact::zero();
     }
-    if floats.len() / 45 <= k {
+    if floats.len() / FLOATS_WIDTH <= k {
         return Contact::zero();
     }
-    let i = k * 3;
-    let j = k * 45;
-    contact_of(&numbers[i..i + 3], &floats[j..j + 45])
+    let i = k * NUMBERS_WIDTH;
+    let j = k * FLOATS_WIDTH;
+    contact_of(
+        &numbers[i..i + NUMBERS_WIDTH],
+        &floats[j..j + FLOATS_WIDTH],
+    )
 }
 
 fn step_of(s: &[u16]) -> Step
-    requires { ⌜ length (now s) ≡ 2 ⌝ }
+    requires { ⌜ length (now s) ≡ stepWidth ⌝ }
     ensures { λ r. ⌜ r ≡ stepOf (now (s .entry)) ⌝ }
 {
     Step {
@@ -148,9 +164,9 @@ fn step_of(s: &[u16]) -> Step
 pub fn step_at(steps: &[u16], i: usize) -> Step
     ensures { λ r. ⌜ r ≡ stepAt (now (steps .entry)) i ⌝ }
 {
-    if i < steps.len() / 2 {
-        let j = i * 2;
-        return step_of(&steps[j..j + 2]);
+    if i < steps.len() / STEP_WIDTH {
+        let j = i * STEP_WIDTH;
+        return step_of(&steps[j..j + STEP_WIDTH]);
     }
     Step {
         contact: 0,

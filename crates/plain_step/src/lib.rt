@@ -20,7 +20,7 @@ use step_values::out_of_range;
 use step_values::unwritable;
 ghost use mathlib.Core.Path.{_≡_};
 ghost use mathlib.Core.List.{[], _∷_};
-ghost use Rattle.step_kinds.specs.Kinds.{routine};
+ghost use Rattle.step_kinds.specs.Table.{routine};
 ghost use Rattle.step_values.specs.Values.{unwritable};
 ghost use Rattle.base_refusals.specs.Refusals.{_when_};
 ghost use Rattle.step_rules.specs.Step.{asRead, asWritten, firstOr, reads, step};

@@ -12,7 +12,7 @@ use Rattle.base_refusals.specs.Distinct.{distinct, stands}
 use Rattle.base_refusals.proofs.Exact.{apart}
 use Rattle.elem_velocity.specs.declared.Vels.{Vels}
 use Rattle.step_contact.specs.declared.Contact.{Contact}
-use Rattle.step_kinds.specs.Kinds.{routine}
+use Rattle.step_kinds.specs.Table.{routine}
 use Rattle.step_kinds.specs.declared.ContactSolved.{ContactSolved}
 use Rattle.step_rules.specs.Step.{Check, Looks, _looks_, asked, at-both, at-contact, at-step, checks, conditions, firstOr, holdsOf, tried}
 use Rattle.step_rules.specs.declared.Outcome.{Outcome}

@@ -8,13 +8,13 @@ use Rattle.base_words.proofs.Said.{none-l, none-r, not-so, so}
 use Rattle.base_refusals.specs.Refusals.{first}
 use Rattle.base_refusals.specs.Distinct.{distinct, stands}
 use Rattle.base_refusals.proofs.Exact.{none-holds}
-use Rattle.elem_leaves.specs.Finite.{finite}
+use Rattle.base_places.specs.declared.Cell.{Cell}
 use Rattle.step_contact.specs.declared.Contact.{Contact}
 use Rattle.step_contact.specs.declared.ContactHead.{ContactHead}
 use Rattle.step_contact.specs.declared.ContactPoint.{ContactPoint}
 use Rattle.step_kinds.proofs.Keeps.{same-head, stored-point}
 use Rattle.step_kinds.proofs.Places.{Place, at-a, at-b, number, point}
-use Rattle.step_kinds.specs.Writes.{presses, rubs}
+use Rattle.step_kinds.specs.Table.{stores}
 use Rattle.step_kinds.specs.Stored.{stored}
 use Rattle.step_kinds.specs.declared.ContactSolved.{ContactSolved}
 use Rattle.step_shape.specs.Shape.{wrongBodies, wrongCount}
@@ -22,7 +22,7 @@ use Rattle.step_values.proofs.Passed.{not-at}
 use Rattle.step_values.specs.Values.{below0, finiteHead, finitePoint, headOut, notFinite, outOfRange, pointOut, somePoint}
 use Rattle.step_rules.specs.Step.{checks}
 use Rattle.step_promises.proofs.Promises.{bodies-passed, finite-done, known, same-head-kept, untouched}
-use Rattle.step_promises.specs.Promises.{FiniteResult}
+use Rattle.step_promises.specs.Promises.{FiniteCells, FiniteResult}
 use Rattle.quick_flaws.proofs.Kept.{none-at, point-stays-finite, point-stays-in-range}
 use Rattle.quick_flaws.specs.Flaws.{StaysVouched, flaw, halfAt, ofContact, pressing, vouched}
 
@@ -49,24 +49,22 @@ module _ (rows : ℕ) (c : Contact) where
   unfolding vouched flaw ofContact checks halfAt first
   vouch-for p = rw (p .bodies, p .count, p .numbers, p .range)
 
--- what a done step leaves: d for c, the impulses of a kind stored
-module _ (n t : Bool) (c d : Contact) (is-stored : d ≡ stored n t c d) where
+-- what a done step leaves: d for c, some cells stored
+module _ (which : Cell → Bool) (c d : Contact) (is-stored : d ≡ stored which c d) where
   abbrev head-kept : d .head ≡ c .head
-  head-kept = same-head n t c d is-stored
+  head-kept = same-head which c d is-stored
 
   old-below : (x : Place) → ltb (number x) (d .head .count) ≡ true → ltb (number x) (c .head .count) ≡ true
   old-below x below = rw (← head-kept) below
 
   points-stay-finite : somePoint (λ p. not (finitePoint p)) c ≡ false
-      → ((x : Place) → ltb (number x) (d .head .count) ≡ true
-      → (finite (point x d .«normal_part» .impulse) ≡ true) × (finite (point x d .«tangent_part» .impulse) ≡ true))
+      → ((x : Place) → ltb (number x) (d .head .count) ≡ true → FiniteCells (point x d))
       → somePoint (λ p. not (finitePoint p)) d ≡ false
   points-stay-finite old new =
       none-at (λ p. not (finitePoint p)) d (λ x below.
       let was = old-below x below in
       let f = so (finitePoint (point x c)) (not-at (λ p. not (finitePoint p)) c old x was) in
-      let e = new x below in
-      ap not (point-stays-finite n t (point x c) (point x d) (stored-point n t c d is-stored x was) f (e .0) (e .1)))
+      ap not (point-stays-finite which (point x c) (point x d) (stored-point which c d is-stored x was) f (new x below)))
 
   points-stay-in-range : somePoint (pointOut (c .head)) c ≡ false → pressing d ≡ true → somePoint (pointOut (d .head)) d ≡ false
   unfolding pressing
@@ -74,18 +72,17 @@ module _ (n t : Bool) (c d : Contact) (is-stored : d ≡ stored n t c d) where
       none-at (pointOut (d .head)) d (λ x below.
       let was = old-below x below in
       let pushes : ContactPoint → Bool = λ p. below0 (p .«normal_part» .impulse) in
-      let kept = point-stays-in-range n t (point x c) (point x d) (stored-point n t c d is-stored x was) (c .head)
+      let kept = point-stays-in-range which (point x c) (point x d) (stored-point which c d is-stored x was) (c .head)
       (not-at (pointOut (c .head)) c old x was) (not-at pushes d (not-so (somePoint pushes d) new) x below) in
       ap (λ (h : ContactHead). pointOut h (point x d)) head-kept ∙ kept)
 
 neither : {p q : Bool} → p ≡ false → q ≡ false → (p || q) ≡ false
 neither e f = rw (e, f)
 
--- every point below count has finite impulses, as a done step's promise has it
-at-points : (s : ContactSolved) → FiniteResult s → (x : Place) → ltb (number x) (s .contact .head .count) ≡ true
-    → (finite (point x (s .contact) .«normal_part» .impulse) ≡ true) × (finite (point x (s .contact) .«tangent_part» .impulse) ≡ true)
-at-points s f at-a below = let i = f .at-a (ltb-true 0 (s .contact .head .count) below) in (i .normal, i .tangent)
-at-points s f at-b below = let i = f .at-b (ltb-true 1 (s .contact .head .count) below) in (i .normal, i .tangent)
+-- every point below count has finite cells, as a done step's promise has it
+at-points : (s : ContactSolved) → FiniteResult s → (x : Place) → ltb (number x) (s .contact .head .count) ≡ true → FiniteCells (point x (s .contact))
+at-points s f at-a below = f .at-a (ltb-true 0 (s .contact .head .count) below)
+at-points s f at-b below = f .at-b (ltb-true 1 (s .contact .head .count) below)
 
 pub stays-vouched : StaysVouched
 unfolding notFinite outOfRange
@@ -96,8 +93,8 @@ stays-vouched c kind v rows s e pushes =
     let head : d .head ≡ c .head = same-head-kept c kind v rows s e in
     let wrong-head = not (finiteHead (c .head)) in
     let wrong-points = somePoint (λ p. not (finitePoint p)) c in
-    let points = points-stay-finite (presses kind) (rubs kind) c d stored-in (none-r wrong-head wrong-points (k .read-finite)) (at-points s (finite-done c kind v rows s e)) in
-    let range = points-stay-in-range (presses kind) (rubs kind) c d stored-in
+    let points = points-stay-finite (stores kind) c d stored-in (none-r wrong-head wrong-points (k .read-finite)) (at-points s (finite-done c kind v rows s e)) in
+    let range = points-stay-in-range (stores kind) c d stored-in
     (none-r (headOut (c .head)) (somePoint (pointOut (c .head)) c) (k .in-range)) pushes in
     vouch-for rows d (record {
       bodies = rw head (bodies-passed c kind v rows s e);

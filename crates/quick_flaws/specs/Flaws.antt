@@ -8,7 +8,7 @@ use mathlib.Core.Path.{_≡_}
 use lib.Dec.{eqb}
 use Rattle.elem_velocity.specs.declared.Vels.{Vels}
 use Rattle.step_contact.specs.declared.Contact.{Contact}
-use Rattle.step_kinds.specs.Kinds.{routine}
+use Rattle.step_kinds.specs.Table.{routine}
 use Rattle.step_kinds.specs.declared.ContactSolved.{ContactSolved}
 use Rattle.step_values.specs.Values.{below0, somePoint}
 use Rattle.base_refusals.specs.Refusals.{Condition, _when_, first}

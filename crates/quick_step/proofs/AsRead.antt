@@ -1,12 +1,14 @@
 -- A step on contact k as it is read, kind by kind, and that nothing has to be seen to on the floor's side: it reads as rest, and is not
 -- written. Assumes nothing.
-use Prim.Native.Nat.{ℕ}
+use Prim.Native.Nat.{ℕ, _≤_}
 use mathlib.Core.Bool.{Bool, true, false, _||_}
 use mathlib.Core.List.{List, [], _∷_}
 use mathlib.Core.Path.{_≡_, refl, sym, ap, _∙_}
 use borrow.Author.Tests.{eq-eqb, eqb-true, ne-eqb}
 use lib.Dec.{eqb, ltb}
 use lib.Ieee.{Float}
+use lib.ListN.{length}
+use Rattle.base_places.specs.Places.{bodyWidth, floatsWidth}
 use Rattle.base_words.specs.Choice.{if_then_else_}
 use Rattle.base_words.proofs.Pick.{never}
 use Rattle.base_words.proofs.Said.{none-l, none-r}
@@ -17,9 +19,9 @@ use Rattle.elem_velocity.specs.declared.Vels.{Vels}
 use Rattle.step_contact.specs.Contact.{isFloor}
 use Rattle.step_contact.specs.declared.Contact.{Contact}
 use Rattle.step_contact.specs.declared.ContactHead.{ContactHead}
-use Rattle.step_kinds.specs.Kinds.{overPoints, pairOf, routine, warmStart}
+use Rattle.step_kinds.specs.Table.{kinds, routine}
+use Rattle.step_kinds.proofs.NoKind.{does-nothing}
 use Rattle.step_kinds.specs.declared.ContactSolved.{ContactSolved}
-use Rattle.step_kinds.specs.declared.Rule.the-variants.{Normal, Friction, Restitution}
 use Rattle.step_shape.specs.Shape.{kindAbove, pairOfOne}
 use Rattle.step_values.specs.Values.{notFiniteVels, unwritable}
 use Rattle.step_rules.proofs.Chain.{hit, miss}
@@ -36,32 +38,15 @@ use Rattle.quick_flaws.specs.Flaws.{askedKnowing, flaw, holdsKnowing, triedKnow
 use Rattle.quick_flaws.proofs.Knowing.{judged-by-flaw}
 use Rattle.list_rules.specs.Sweep.{Tables, answered, itsContact, ifThere, newBodies, newFloats, outcome, stepOn, tables, velsAt}
 
--- the routine of a kind, of contact k as it was read
-module _ (kind : ℕ) (numbers : List ℕ) (floats : List Float) (k : ℕ) (v : Vels) {c : Contact} (read : c ≡ contactAt numbers floats k) {r : ContactSolved} where
-  pub of-0 : kind ≡ 0 → r ≡ warmStart c v → r ≡ routine kind (contactAt numbers floats k) v
-  unfolding routine
-  of-0 e m = rw (← read, e) m
+-- the routine of kind n, of contact k as it was read
+pub of-kind : (kind : ℕ) (numbers : List ℕ) (floats : List Float) (k : ℕ) (v : Vels) (n : ℕ) {c : Contact} {r : ContactSolved}
+    → c ≡ contactAt numbers floats k → kind ≡ n → r ≡ routine n c v → r ≡ routine kind (contactAt numbers floats k) v
+of-kind kind numbers floats k v n read e made = rw (← read, e) made
 
-  pub of-1 : kind ≡ 1 → r ≡ overPoints Normal c v → r ≡ routine kind (contactAt numbers floats k) v
-  unfolding routine
-  of-1 e m = rw (← read, e) m
-
-  pub of-2 : kind ≡ 2 → r ≡ overPoints Friction c v → r ≡ routine kind (contactAt numbers floats k) v
-  unfolding routine
-  of-2 e m = rw (← read, e) m
-
-  pub of-3 : kind ≡ 3 → r ≡ overPoints Restitution c v → r ≡ routine kind (contactAt numbers floats k) v
-  unfolding routine
-  of-3 e m = rw (← read, e) m
-
-  pub of-4 : kind ≡ 4 → r ≡ pairOf c v → r ≡ routine kind (contactAt numbers floats k) v
-  unfolding routine
-  of-4 e m = rw (← read, e) m
-
-  pub of-none : (kind ≡ 0 → ⊥) → (kind ≡ 1 → ⊥) → (kind ≡ 2 → ⊥) → (kind ≡ 3 → ⊥) → (kind ≡ 4 → ⊥) → r ≡ record { branch = 0; contact = c; vels = v }
-      → r ≡ routine kind (contactAt numbers floats k) v
-  unfolding routine
-  of-none n0 n1 n2 n3 n4 m = rw (← read, ne-eqb kind 0 n0, ne-eqb kind 1 n1, ne-eqb kind 2 n2, ne-eqb kind 3 n3, ne-eqb kind 4 n4) m
+-- a number past the table of kinds does nothing with it
+pub of-none : (kind : ℕ) (numbers : List ℕ) (floats : List Float) (k : ℕ) (v : Vels) {c : Contact} → c ≡ contactAt numbers floats k
+    → length kinds ≤ kind → record { branch = 0; contact = c; vels = v } ≡ routine kind (contactAt numbers floats k) v
+of-none kind numbers floats k v read past = of-kind kind numbers floats k v kind read refl (does-nothing kind past _ v)
 
 -- 7, of the contact as it was read
 pub as-pair : (kind : ℕ) {c d : Contact} {r : Bool} → c ≡ d → r ≡ pairOfOne kind (c .head) → r ≡ pairOfOne kind (d .head)
@@ -157,17 +142,17 @@ module _ (bodies : List Float) (numbers : List ℕ) (floats : List Float) (s : S
   vels = velsAt bodies (its .head)
 
   abbrev raw : Outcome
-  raw = ifThere (rows 45 floats) s (triedKnowing its (s .kind) vels (flaw (rows 3 bodies) its))
+  raw = ifThere (rows floatsWidth floats) s (triedKnowing its (s .kind) vels (flaw (rows bodyWidth bodies) its))
 
   outcome-is : outcome s (tables bodies numbers floats) ≡ asWritten (its .head) vels raw
   unfolding outcome itsContact step
   outcome-is =
-      ap (λ (x : Outcome). ifThere (rows 45 floats) s (asWritten (its .head) vels x))
-      (ap (λ (w : Vels). tried its (s .kind) w (rows 3 bodies)) (read-itself bodies (its .head)) ∙ sym (judged-by-flaw (rows 3 bodies) its (s .kind) vels))
-      ∙ if-there-as-made (its .head) vels (rows 45 floats) s (triedKnowing its (s .kind) vels (flaw (rows 3 bodies) its))
+      ap (λ (x : Outcome). ifThere (rows floatsWidth floats) s (asWritten (its .head) vels x))
+      (ap (λ (w : Vels). tried its (s .kind) w (rows bodyWidth bodies)) (read-itself bodies (its .head)) ∙ sym (judged-by-flaw (rows bodyWidth bodies) its (s .kind) vels))
+      ∙ if-there-as-made (its .head) vels (rows floatsWidth floats) s (triedKnowing its (s .kind) vels (flaw (rows bodyWidth bodies) its))
 
-  pub stepped : {c : Contact} {v : Vels} {f : ℕ} {t o : Outcome} {b l : List Float} {a : Answer} → f ≡ flaw (rows 3 bodies) its → c ≡ its
-      → v ≡ velsAt bodies (c .head) → t ≡ triedKnowing its (s .kind) v f → o ≡ ifThere (rows 45 floats) s t → b ≡ newBodies (c .head) o bodies
+  pub stepped : {c : Contact} {v : Vels} {f : ℕ} {t o : Outcome} {b l : List Float} {a : Answer} → f ≡ flaw (rows bodyWidth bodies) its → c ≡ its
+      → v ≡ velsAt bodies (c .head) → t ≡ triedKnowing its (s .kind) v f → o ≡ ifThere (rows floatsWidth floats) s t → b ≡ newBodies (c .head) o bodies
       → l ≡ newFloats s o floats → a ≡ answered o
       → record { answer = a; after = tables b numbers l } ≡ stepOn s (tables bodies numbers floats)
   unfolding stepOn itsContact

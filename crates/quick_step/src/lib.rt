@@ -1,6 +1,7 @@
 // The quick engine's step on the tables: it is told what is wrong with its contact, so that nothing is looked for twice.
 // It copies its contact and two velocities out, is judged and worked on the copies, and writes back all of its result or
 // nothing.
+use base_places::FLOATS_WIDTH;
 use elem_velocity::Vels;
 use list_cells::Answer;
 use list_cells::put_impulses;
@@ -20,10 +21,11 @@ use step_shape::pair_of_one;
 use step_values::not_finite_vels;
 use step_values::unwritable;
 ghost use mathlib.Core.Path.{_≡_};
+ghost use Rattle.base_places.specs.Places.{bodyWidth};
 ghost use Rattle.base_rows.specs.Rows.{rows};
 ghost use Rattle.list_tables.specs.Tables.{contactAt};
 ghost use mathlib.Core.List.{[], _∷_};
-ghost use Rattle.step_kinds.specs.Kinds.{routine};
+ghost use Rattle.step_kinds.specs.Table.{routine};
 ghost use Rattle.step_values.specs.Values.{unwritable};
 ghost use Rattle.base_refusals.specs.Refusals.{_when_};
 ghost use Rattle.step_rules.specs.Step.{firstOr};
@@ -160,7 +162,7 @@ pub fn step_on(
     s: Step,
     known: u16,
 ) -> Answer
-    requires { ⌜ known ≡ flaw (rows 3 (now bodies)) (contactAt (now numbers) (now floats) (s .contact)) ⌝ }
+    requires { ⌜ known ≡ flaw (rows bodyWidth (now bodies)) (contactAt (now numbers) (now floats) (s .contact)) ⌝ }
     ensures { λ r. ⌜ record { answer = r; after = tables (now (bodies .exit)) (now (numbers .entry)) (now (floats .exit)) } ≡ stepOn s (tables (now (bodies .entry)) (now (numbers .entry)) (now (floats .entry))) ⌝ }
 {
     let k = s.contact as usize;
@@ -168,7 +170,7 @@ pub fn step_on(
     let head = contact.head;
     let vels = velocities(bodies, head);
     let tried = tried_knowing(numbers, floats, k, s.kind, vels, known);
-    let outcome = if_there(floats.len() / 45, s, tried);
+    let outcome = if_there(floats.len() / FLOATS_WIDTH, s, tried);
     write_bodies(bodies, head, outcome);
     write_floats(floats, s, outcome);
     answered(outcome)

@@ -8,6 +8,7 @@ use mathlib.Core.Logic.{_≢_}
 use mathlib.Core.Path.{_≡_, refl, sym, ap, _∙_}
 use lib.Dec.{eqb}
 use lib.ListN.{getD, length, replicate, set}
+use Rattle.base_places.specs.Places.{bodyWidth, floatsWidth}
 use Rattle.base_words.specs.Choice.{if_then_else_}
 use Rattle.base_words.proofs.Pick.{never}
 use Rattle.base_words.proofs.Said.{all-l, all-r}
@@ -68,7 +69,7 @@ pub by-flag : (flags : List ℕ) (t : Tables) (k : ℕ) {up : Bool} → Vouching
 unfolding Vouching vouched
 by-flag flags t k right e h = sym (eqb-true (flawAt t k) 0 (right k (sym e ∙ h)))
 
-pub by-search : (t : Tables) (k : ℕ) {c : Contact} {f : ℕ} → c ≡ contactAt (t .numbers) (t .floats) k → f ≡ flaw (rows 3 (t .bodies)) c → f ≡ flawAt t k
+pub by-search : (t : Tables) (k : ℕ) {c : Contact} {f : ℕ} → c ≡ contactAt (t .numbers) (t .floats) k → f ≡ flaw (rows bodyWidth (t .bodies)) c → f ≡ flawAt t k
 by-search t k e f = cc
 
 -- what a step leaves
@@ -76,19 +77,19 @@ module _ (s : Step) (t : Tables) where
   abbrev after : Tables
   after = stepOn s t .after
 
-  as-many-bodies : rows 3 (after .bodies) ≡ rows 3 (t .bodies)
-  as-many-bodies = ap (λ l. rows 3 l) (after-bodies s t) ∙ bodies-as-many (itsContact s t .head) (outcome s t) (t .bodies)
+  as-many-bodies : rows bodyWidth (after .bodies) ≡ rows bodyWidth (t .bodies)
+  as-many-bodies = ap (λ l. rows bodyWidth l) (after-bodies s t) ∙ bodies-as-many (itsContact s t .head) (outcome s t) (t .bodies)
 
-  as-many-floats : rows 45 (after .floats) ≡ rows 45 (t .floats)
-  as-many-floats = ap (λ l. rows 45 l) (after-floats s t) ∙ floats-as-many s (outcome s t) (t .floats)
+  as-many-floats : rows floatsWidth (after .floats) ≡ rows floatsWidth (t .floats)
+  as-many-floats = ap (λ l. rows floatsWidth l) (after-floats s t) ∙ floats-as-many s (outcome s t) (t .floats)
 
   -- a contact whose row stays is vouched for as before
-  same-vouched : (k : ℕ) → row 45 k (after .floats) ≡ row 45 k (t .floats) → vouchedAt after k ≡ vouchedAt t k
+  same-vouched : (k : ℕ) → row floatsWidth k (after .floats) ≡ row floatsWidth k (t .floats) → vouchedAt after k ≡ vouchedAt t k
   unfolding contactAt readRow
   same-vouched k same = rw (as-many-bodies, after-numbers s t, as-many-floats, same)
 
-  row-stays : (k : ℕ) → ((d : ContactSolved) → outcome s t ≡ Done d → k ≢ s .contact) → row 45 k (after .floats) ≡ row 45 k (t .floats)
-  row-stays k other = ap (λ l. row 45 k l) (after-floats s t) ∙ contact-stays s (outcome s t) (t .floats) k other
+  row-stays : (k : ℕ) → ((d : ContactSolved) → outcome s t ≡ Done d → k ≢ s .contact) → row floatsWidth k (after .floats) ≡ row floatsWidth k (t .floats)
+  row-stays k other = ap (λ l. row floatsWidth k l) (after-floats s t) ∙ contact-stays s (outcome s t) (t .floats) k other
 
   -- its own contact: as it was, or with its new impulses
   own-vouched : vouchedAt t (s .contact) ≡ true → pressing (contactAt (after .numbers) (after .floats) (s .contact)) ≡ true → vouchedAt after (s .contact) ≡ true
@@ -100,8 +101,8 @@ module _ (s : Step) (t : Tables) where
           let back : contactAt (after .numbers) (after .floats) (s .contact) ≡ d .contact = sym (its-contact s after) ∙ contact-read-back s t d e in
           let copies = done-there s t d e in
           ap (λ n. vouched n (contactAt (after .numbers) (after .floats) (s .contact))) as-many-bodies
-          ∙ ap (vouched (rows 3 (t .bodies))) back
-          ∙ stays-vouched (itsContact s t) (s .kind) (velsAt (t .bodies) (itsContact s t .head)) (rows 3 (t .bodies)) d (copies .1) (rw (← back) pushes)
+          ∙ ap (vouched (rows bodyWidth (t .bodies))) back
+          ∙ stays-vouched (itsContact s t) (s .kind) (velsAt (t .bodies) (itsContact s t .head)) (rows bodyWidth (t .bodies)) d (copies .1) (rw (← back) pushes)
 
   -- its contact needs no more testing
   abbrev settled : Bool

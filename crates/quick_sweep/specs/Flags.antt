@@ -6,6 +6,7 @@ use mathlib.Core.List.{List}
 use mathlib.Core.Path.{_≡_}
 use lib.Dec.{eqb}
 use lib.ListN.{getD, set}
+use Rattle.base_places.specs.Places.{bodyWidth}
 use Rattle.base_words.specs.Choice.{if_then_else_}
 use Rattle.base_rows.specs.Rows.{rows}
 use Rattle.list_tables.specs.Tables.{contactAt}
@@ -22,10 +23,10 @@ flagged flags k up = set flags k (if up then 1 else 0)
 
 -- what is wrong with contact k as it stands in the tables, and whether it is vouched for
 abbrev pub flawAt : Tables → ℕ → ℕ
-flawAt t k = flaw (rows 3 (t .bodies)) (contactAt (t .numbers) (t .floats) k)
+flawAt t k = flaw (rows bodyWidth (t .bodies)) (contactAt (t .numbers) (t .floats) k)
 
 abbrev pub vouchedAt : Tables → ℕ → Bool
-vouchedAt t k = vouched (rows 3 (t .bodies)) (contactAt (t .numbers) (t .floats) k)
+vouchedAt t k = vouched (rows bodyWidth (t .bodies)) (contactAt (t .numbers) (t .floats) k)
 
 -- every flag that is up is right
 unfoldable pub Vouching : List ℕ → Tables → Type 0

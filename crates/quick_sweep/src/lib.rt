@@ -1,5 +1,7 @@
 // A list of steps, one after the other. What a contact is refused by is looked for at the first step that names it; where
 // nothing is found, a flag says that it need not be looked for again. What a list comes to is the same without flags.
+use base_places::BODY_WIDTH;
+use base_places::MOST_CONTACTS;
 use list_cells::Answer;
 use list_cells::put_answer;
 use list_tables::contact_at;
@@ -46,7 +48,7 @@ fn its_flaw(bodies: &[f32], numbers: &[u16], floats: &[f32], flags: &[u8], k: us
     if raised(flags, k) {
         return 0;
     }
-    flaw(contact_at(numbers, floats, k), bodies.len() / 3)
+    flaw(contact_at(numbers, floats, k), bodies.len() / BODY_WIDTH)
 }
 
 // Step i of the list: done on the tables, its answer laid into row i of the room, its contact's flag put right.
@@ -114,6 +116,6 @@ pub fn sweep(
 ) -> usize
     ensures { λ r. ⌜ swept (tables (now (bodies .exit)) (now (numbers .entry)) (now (floats .exit))) (now (room .exit)) r ≡ sweep (now (steps .entry)) n (tables (now (bodies .entry)) (now (numbers .entry)) (now (floats .entry))) (now (room .entry)) ⌝ }
 {
-    let mut flags = [0u8; 16384];
+    let mut flags = [0u8; MOST_CONTACTS];
     walk(bodies, numbers, floats, steps, room, &mut flags, n)
 }

@@ -1,1 +1,2 @@
 pub mod Contact
+pub mod Cells

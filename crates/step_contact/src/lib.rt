@@ -1,10 +1,12 @@
 // The record of a contact of two bodies: a head and two points. The shape is that of the Rust's
 // contact_with_coulomb_friction.rs for one lane: its arrays of two parts are points a and b here.
+use base_places::Cell;
 use elem_leaves::Vec2;
 use elem_normal::ContactConstraintNormalPart;
 use elem_tangent::ContactConstraintTangentPart;
 ghost use mathlib.Core.Path.{_≡_};
 ghost use Rattle.step_contact.specs.Contact.{contactZero, headZero, pointZero};
+ghost use Rattle.step_contact.specs.Cells.{inCell};
 
 // The number of the floor: it reads as rest and is never written.
 pub const FLOOR: u16 = 65535;
@@ -64,6 +66,16 @@ impl ContactPoint {
         ContactPoint {
             normal_part,
             tangent_part,
+        }
+    }
+
+    // What stands in a cell.
+    pub fn in_cell(self, cell: Cell) -> f32
+        ensures { λ r. ⌜ r ≡ inCell cell self ⌝ }
+    {
+        match cell {
+            Cell::NormalImpulse => self.normal_part.impulse,
+            Cell::TangentImpulse => self.tangent_part.impulse,
         }
     }
 }

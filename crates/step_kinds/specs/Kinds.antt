@@ -1,7 +1,7 @@
--- Document 01, "Arithmetic" and "Tables": what each kind of step does with a contact and the velocities of its bodies.
--- A rule is said once, at one point; then over the points below count, a then b. Assumes nothing.
+-- Document 01, "Arithmetic": the routines, each with a contact and the velocities of its bodies. A rule is said once, at one point; then
+-- over the points below count, a then b. Which kind of step has which routine stands in Table.antt. Assumes nothing.
 use Prim.Native.Nat.{ℕ}
-use lib.Dec.{eqb, ltb}
+use lib.Dec.{ltb}
 use Rattle.base_words.specs.Choice.{if_then_else_}
 use Rattle.elem_leaves.specs.Floats.{_*f_}
 use Rattle.elem_leaves.specs.Leaves.{tangent}
@@ -82,13 +82,3 @@ pairOf c v =
       };
       vels = s .vels;
     }
-
--- the step's kind, 0 to 4, chooses the routine: 0 warm start, 1 normal, 2 friction, 3 restitution, 4 normal pair; no other has one
-unfoldable pub routine : ℕ → Contact → Vels → ContactSolved
-routine kind c v =
-    if eqb kind 0 then warmStart c v else
-    if eqb kind 1 then overPoints Normal c v else
-    if eqb kind 2 then overPoints Friction c v else
-    if eqb kind 3 then overPoints Restitution c v else
-    if eqb kind 4 then pairOf c v else
-    record { branch = 0; contact = c; vels = v }

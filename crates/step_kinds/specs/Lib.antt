@@ -1,3 +1,3 @@
 pub mod Kinds
-pub mod Writes
+pub mod Table
 pub mod Stored

@@ -1,6 +1,7 @@
 // What each kind of step does with a contact and the velocities of its two bodies: the rules at a
 // point, over the points below count, and the routine that a kind chooses. All is by value: a
 // contact and two velocities in, the new ones back.
+use base_places::Cell;
 use elem_normal::ContactConstraintNormalPart;
 use elem_normal::NormalSolved;
 use elem_velocity::Vels;
@@ -8,9 +9,10 @@ use step_contact::Contact;
 use step_contact::ContactHead;
 use step_contact::ContactPoint;
 ghost use mathlib.Core.Path.{_≡_};
-ghost use Rattle.step_kinds.specs.Kinds.{atPoint, overPoints, pairOf, routine, turn, warmStart};
+ghost use Rattle.step_kinds.specs.Kinds.{atPoint, overPoints, pairOf, turn, warmStart};
 ghost use Rattle.step_kinds.specs.Kinds.{frictionAt, normalAt, normalLeft, restitutionAt};
 ghost use Rattle.step_kinds.specs.Kinds.{warmNormalAt, warmTangentAt};
+ghost use Rattle.step_kinds.specs.Table.{pointsFor, routine, stores};
 
 // What a rule does at one point. Warm start is two of them, since it pushes all normal parts before
 // any tangent part.
@@ -206,7 +208,10 @@ pub fn solve_pair(contact: Contact, vels: Vels) -> ContactSolved
     }
 }
 
-// The routine that a kind chooses; a kind above 4 has none.
+// The table of kinds, in three columns: a new kind is an arm of each. Above the last there is none.
+pub const LAST_KIND: u16 = 4;
+
+// The routine that a kind chooses.
 pub fn routine(contact: Contact, kind: u16, vels: Vels) -> ContactSolved
     ensures { λ r. ⌜ r ≡ routine kind contact vels ⌝ }
 {
@@ -221,5 +226,33 @@ pub fn routine(contact: Contact, kind: u16, vels: Vels) -> ContactSolved
             contact,
             vels,
         },
+    }
+}
+
+// How many points it needs.
+pub fn points_for(kind: u16) -> u16
+    ensures { λ r. ⌜ r ≡ pointsFor kind ⌝ }
+{
+    match kind {
+        0 => 1,
+        1 => 1,
+        2 => 1,
+        3 => 1,
+        4 => 2,
+        5..=65535 => 1,
+    }
+}
+
+// Whether it stores a cell.
+pub fn stores(kind: u16, cell: Cell) -> bool
+    ensures { λ r. ⌜ r ≡ stores kind cell ⌝ }
+{
+    match kind {
+        0 => false,
+        1 => cell.is(Cell::NormalImpulse),
+        2 => cell.is(Cell::TangentImpulse),
+        3 => cell.is(Cell::NormalImpulse),
+        4 => cell.is(Cell::NormalImpulse),
+        5..=65535 => false,
     }
 }

@@ -9,13 +9,12 @@ use Rattle.elem_velocity.specs.declared.Vels.{Vels}
 use Rattle.step_kinds.proofs.Keeps.{no-branch, routine-keeps, same-head}
 use Rattle.step_contact.specs.Contact.{isFloor}
 use Rattle.step_kinds.proofs.Places.{at-a, at-b}
-use Rattle.step_kinds.specs.Kinds.{routine}
-use Rattle.step_kinds.specs.Writes.{presses, rubs}
+use Rattle.step_kinds.specs.Table.{routine, stores}
 use Rattle.step_contact.specs.declared.Contact.{Contact}
 use Rattle.step_contact.specs.declared.ContactHead.{ContactHead}
 use Rattle.step_kinds.specs.declared.ContactSolved.{ContactSolved}
 use Rattle.step_shape.proofs.Points.{two-points}
-use Rattle.step_values.proofs.Passed.{impulses-finite, velocity1-finite, velocity2-finite}
+use Rattle.step_values.proofs.Passed.{cells-finite, velocity1-finite, velocity2-finite}
 use Rattle.step_shape.specs.Shape.{pairOfOne, wrongBodies, wrongCount}
 use Rattle.step_values.specs.Values.{finiteVel, notFinite, notFiniteVels, outOfRange, unwritable}
 use Rattle.base_refusals.specs.Refusals.{Condition, first}
@@ -126,7 +125,7 @@ untouched c kind v rows s e =
     rw (k .contact) (routine-keeps c seen kind (two-points kind (c .head) (k .counted) (k .paired)))
 
 pub same-head-kept : SameHead
-same-head-kept c kind v rows s e = same-head (presses kind) (rubs kind) c (s .contact) (untouched c kind v rows s e)
+same-head-kept c kind v rows s e = same-head (stores kind) c (s .contact) (untouched c kind v rows s e)
 
 -- the floor's side is the old one
 floor-side : (body : ℕ) (old new : SolverVel) → isFloor body ≡ true → writes body old new ≡ old
@@ -155,15 +154,15 @@ finite-done c kind v rows s e =
     let seen = asRead h v in
     let m = routine kind c seen in
     let keeps = routine-keeps c seen kind (two-points kind h (k .counted) (k .paired)) in
-    let head : m .contact .head ≡ h = same-head (presses kind) (rubs kind) c (m .contact) keeps in
+    let head : m .contact .head ≡ h = same-head (stores kind) c (m .contact) keeps in
     let v1-finite : isFloor (h .body1) ≡ false → finiteVel (m .vels .v1) ≡ true = rw head at (velocity1-finite kind m (k .writable)) in
     let v2-finite : isFloor (h .body2) ≡ false → finiteVel (m .vels .v2) ≡ true = rw head at (velocity2-finite kind m (k .writable)) in
-    let at-points = impulses-finite kind c m keeps (k .read-finite) (k .writable) in
+    let at-points = cells-finite kind c m keeps (k .read-finite) (k .writable) in
     record {
       velocity1 = rw (k .contact, k .vels, head) (λ real. rw (real-side (h .body1) (v .v1) (m .vels .v1) real) (v1-finite real));
       velocity2 = rw (k .contact, k .vels, head) (λ real. rw (real-side (h .body2) (v .v2) (m .vels .v2) real) (v2-finite real));
-      at-a = rw (k .contact) (λ below. let f = at-points at-a (lt-ltb 0 (m .contact .head .count) below) in record { normal = f .0; tangent = f .1 });
-      at-b = rw (k .contact) (λ below. let f = at-points at-b (lt-ltb 1 (m .contact .head .count) below) in record { normal = f .0; tangent = f .1 });
+      at-a = rw (k .contact) (λ below. at-points at-a (lt-ltb 0 (m .contact .head .count) below));
+      at-b = rw (k .contact) (λ below. at-points at-b (lt-ltb 1 (m .contact .head .count) below));
     }
 
 -- a refusal has no branch, and the routine of another kind has none

@@ -6,7 +6,9 @@ use mathlib.Core.Bool.{true, false}
 use Rattle.elem_leaves.specs.Finite.{finite}
 use Rattle.elem_velocity.specs.declared.Vels.{Vels}
 use Rattle.step_contact.specs.Contact.{isFloor}
-use Rattle.step_kinds.specs.Writes.{presses, rubs}
+use Rattle.base_places.specs.declared.Cell.{Cell}
+use Rattle.step_contact.specs.Cells.{inCell}
+use Rattle.step_kinds.specs.Table.{stores}
 use Rattle.step_kinds.specs.Stored.{stored}
 use Rattle.step_contact.specs.declared.Contact.{Contact}
 use Rattle.step_contact.specs.declared.ContactPoint.{ContactPoint}
@@ -33,10 +35,10 @@ BranchOfPairs = (c : Contact) (kind : ℕ) (v : Vels) (rows : ℕ) → (kind ≡
 abbrev pub OfDone : (Contact → ℕ → Vels → ContactSolved → Type 0) → Type 0
 OfDone P = (c : Contact) (kind : ℕ) (v : Vels) (rows : ℕ) (s : ContactSolved) → step c kind v rows ≡ Done s → P c kind v s
 
--- every number that no rule writes is as it was: the new contact is the old one, but for the impulses that the kind stores at points
+-- every number that no rule writes is as it was: the new contact is the old one, but for the cells that the kind stores at points
 -- below count. So the head, with body numbers and count, never changes
 abbrev pub Untouched : Type 0
-Untouched = OfDone (λ c kind v s. s .contact ≡ stored (presses kind) (rubs kind) c (s .contact))
+Untouched = OfDone (λ c kind v s. s .contact ≡ stored (stores kind) c (s .contact))
 
 abbrev pub SameHead : Type 0
 SameHead = OfDone (λ c kind v s. s .contact .head ≡ c .head)
@@ -49,16 +51,15 @@ pub record FloorSides (c : Contact) (old new : Vels) : Type 0 where
 abbrev pub FloorKept : Type 0
 FloorKept = OfDone (λ c kind v s. FloorSides c v (s .vels))
 
--- a done step's real velocities are finite, and so are all its impulses at points below count, those that it wrote and the others
-pub record FiniteImpulses (p : ContactPoint) : Type 0 where
-  pub normal : finite (p .«normal_part» .impulse) ≡ true
-  pub tangent : finite (p .«tangent_part» .impulse) ≡ true
+-- a done step's real velocities are finite, and so is every cell at points below count, those that it wrote and the others
+abbrev pub FiniteCells : ContactPoint → Type 0
+FiniteCells p = (c : Cell) → finite (inCell c p) ≡ true
 
 pub record FiniteResult (s : ContactSolved) : Type 0 where
   pub velocity1 : isFloor (s .contact .head .body1) ≡ false → finiteVel (s .vels .v1) ≡ true
   pub velocity2 : isFloor (s .contact .head .body2) ≡ false → finiteVel (s .vels .v2) ≡ true
-  pub at-a : 0 < s .contact .head .count → FiniteImpulses (s .contact .a)
-  pub at-b : 1 < s .contact .head .count → FiniteImpulses (s .contact .b)
+  pub at-a : 0 < s .contact .head .count → FiniteCells (s .contact .a)
+  pub at-b : 1 < s .contact .head .count → FiniteCells (s .contact .b)
 
 abbrev pub FiniteDone : Type 0
 FiniteDone = OfDone (λ c kind v s. FiniteResult s)

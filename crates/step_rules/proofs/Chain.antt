@@ -7,7 +7,7 @@ use mathlib.Core.List.{List, [], _∷_}
 use Rattle.base_words.specs.Choice.{if_then_else_}
 use Rattle.base_words.proofs.Pick.{take, pass}
 use Rattle.elem_velocity.specs.declared.Vels.{Vels}
-use Rattle.step_kinds.specs.Kinds.{routine}
+use Rattle.step_kinds.specs.Table.{routine}
 use Rattle.step_contact.specs.declared.Contact.{Contact}
 use Rattle.step_kinds.specs.declared.ContactSolved.{ContactSolved}
 use Rattle.step_shape.specs.Shape.{kindAbove, wrongBodies}

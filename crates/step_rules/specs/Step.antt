@@ -8,7 +8,7 @@ use Rattle.elem_velocity.specs.Velocity.{rest}
 use Rattle.elem_velocity.specs.declared.SolverVel.{SolverVel}
 use Rattle.elem_velocity.specs.declared.Vels.{Vels}
 use Rattle.step_contact.specs.Contact.{isFloor}
-use Rattle.step_kinds.specs.Kinds.{routine}
+use Rattle.step_kinds.specs.Table.{routine}
 use Rattle.step_contact.specs.declared.Contact.{Contact}
 use Rattle.step_contact.specs.declared.ContactHead.{ContactHead}
 use Rattle.step_kinds.specs.declared.ContactSolved.{ContactSolved}

@@ -2,13 +2,15 @@
 -- its contact's head h. Assumes nothing.
 use Prim.Native.Nat.{ℕ}
 use mathlib.Core.Bool.{Bool, not, _&&_, _||_}
-use lib.Dec.{eqb, ltb}
+use lib.Dec.{eqb, leb, ltb}
+use lib.ListN.{length}
 use Rattle.step_contact.specs.Contact.{isFloor}
 use Rattle.step_contact.specs.declared.ContactHead.{ContactHead}
+use Rattle.step_kinds.specs.Table.{kinds, pointsFor}
 
--- 3: the kind is above 4
+-- 3: the kind is above 4, the last of the table
 unfoldable pub kindAbove : ℕ → Bool
-kindAbove kind = ltb 4 kind
+kindAbove kind = leb (length kinds) kind
 
 -- 5: a body number is neither in the table nor 65535, or both are equal
 abbrev pub nowhere : ℕ → ℕ → Bool
@@ -21,6 +23,6 @@ wrongBodies h rows = nowhere (h .body1) rows || nowhere (h .body2) rows || eqb (
 unfoldable pub wrongCount : ContactHead → Bool
 wrongCount h = not (eqb (h .count) 1 || eqb (h .count) 2)
 
--- 7: kind 4 and count 1
+-- 7: kind 4, which needs two points, and count 1
 unfoldable pub pairOfOne : ℕ → ContactHead → Bool
-pairOfOne kind h = eqb kind 4 && eqb (h .count) 1
+pairOfOne kind h = eqb (pointsFor kind) 2 && eqb (h .count) 1

@@ -2,6 +2,8 @@
 // numbers of its contact. Each function is true where its number's condition holds.
 use step_contact::ContactHead;
 use step_contact::FLOOR;
+use step_kinds::LAST_KIND;
+use step_kinds::points_for;
 ghost use mathlib.Core.Path.{_≡_};
 ghost use Rattle.step_shape.specs.Shape.{kindAbove, pairOfOne, wrongBodies, wrongCount};
 
@@ -10,8 +12,8 @@ pub fn kind_above(kind: u16) -> bool
     ensures { λ r. ⌜ r ≡ kindAbove kind ⌝ }
 {
     match kind {
-        0..=4 => false,
-        5..=65535 => true,
+        0..=LAST_KIND => false,
+        _ => true,
     }
 }
 
@@ -37,5 +39,5 @@ pub fn wrong_count(head: ContactHead) -> bool
 pub fn pair_of_one(kind: u16, head: ContactHead) -> bool
     ensures { λ r. ⌜ r ≡ pairOfOne kind head ⌝ }
 {
-    (kind == 4) & (head.count == 1)
+    (points_for(kind) == 2) & (head.count == 1)
 }

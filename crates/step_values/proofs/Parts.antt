@@ -1,18 +1,23 @@
 -- A test made of others is right where each of them is. Assumes nothing.
 use Prim.Native.Nat.{ℕ}
-use mathlib.Core.Path.{_≡_}
+use mathlib.Core.List.{List, [], _∷_}
+use mathlib.Core.Path.{_≡_, refl}
 use mathlib.Core.Bool.{Bool, true, false, not, _&&_, _||_}
 use borrow.Author.Tests.{ne-eqb}
 use lib.Dec.{ltb}
+use lib.Ieee.{Float}
+use Rattle.base_order.specs.OneByOne.{any}
+use Rattle.base_places.specs.declared.Cell.{Cell}
 use Rattle.elem_leaves.specs.Finite.{finite}
+use Rattle.step_contact.specs.Cells.{inCell}
+use Rattle.step_kinds.specs.Table.{stores}
 use Rattle.elem_velocity.specs.declared.SolverVel.{SolverVel}
 use Rattle.elem_velocity.specs.declared.Vels.{Vels}
 use Rattle.step_contact.specs.Contact.{isFloor}
-use Rattle.step_kinds.specs.Writes.{presses, rubs}
 use Rattle.step_contact.specs.declared.Contact.{Contact}
 use Rattle.step_contact.specs.declared.ContactPoint.{ContactPoint}
 use Rattle.step_kinds.specs.declared.ContactSolved.{ContactSolved}
-use Rattle.step_values.specs.Values.{belowCount, finiteHead, finitePoint, finiteVel, headOut, lostImpulse, lostVel, notFinite, notFiniteVels, outOfRange, pointOut, unwritable}
+use Rattle.step_values.specs.Values.{belowCount, finiteHead, finitePoint, finiteVel, headOut, lostCell, lostImpulse, lostVel, notFinite, notFiniteVels, outOfRange, pointOut, unwritable}
 
 pub both : {p q x y : Bool} → p ≡ x → q ≡ y → (p && q) ≡ (x && y)
 both e f = cc
@@ -43,21 +48,27 @@ made e f = rw e f
 pub not-made : (x : Bool) {t : Bool} → t ≡ false → false ≡ (t && x)
 not-made x e = rw e
 
--- two tests, one after the other
-pub first-holds : (q : Bool) {p r : Bool} → r ≡ p → r ≡ true → true ≡ (p || q)
-first-holds q e h = rw (← e, h)
+-- a cell, if it is stored
+module _ (kind : ℕ) (p : ContactPoint) (c : Cell) {s : Bool} (stored : s ≡ stores kind c) where
+  pub lost-there : {x : Float} {f : Bool} → s ≡ true → x ≡ inCell c p → f ≡ finite x → not f ≡ lostCell kind p c
+  lost-there h e g = rw (← stored, h, g, e)
 
-pub second : {p q r b : Bool} → r ≡ p → r ≡ false → b ≡ q → b ≡ (p || q)
-second e h f = rw (← e, h) f
+  pub not-stored : s ≡ false → false ≡ lostCell kind p c
+  not-stored h = rw (← stored, h)
 
-pub lost-normal : (kind : ℕ) (p : ContactPoint) {r : Bool} → r ≡ (presses kind && not (finite (p .«normal_part» .impulse))) → r ≡ true → true ≡ lostImpulse kind p
-unfolding lostImpulse
-lost-normal kind p e h = first-holds _ e h
+-- a list of tests, one after the other
+module _ {A : Type 0} (test : A → Bool) (a : A) (l : List A) {r : Bool} (made : r ≡ test a) where
+  pub found : r ≡ true → true ≡ any test (a ∷ l)
+  unfolding any
+  found h = rw (← made, h)
 
-pub lost-tangent : (kind : ℕ) (p : ContactPoint) {r b : Bool} → r ≡ (presses kind && not (finite (p .«normal_part» .impulse))) → r ≡ false
-    → b ≡ (rubs kind && not (finite (p .«tangent_part» .impulse))) → b ≡ lostImpulse kind p
-unfolding lostImpulse
-lost-tangent kind p e h f = second e h f
+  pub next : {b : Bool} → r ≡ false → b ≡ any test l → b ≡ any test (a ∷ l)
+  unfolding any
+  next h e = rw (← made, h) e
+
+pub none-left : {A : Type 0} (test : A → Bool) → false ≡ any test []
+unfolding any
+none-left test = refl
 
 -- a real body's velocity
 pub of-floor : (body : ℕ) (v : SolverVel) → body ≡ 65535 → false ≡ lostVel body v

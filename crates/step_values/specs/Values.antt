@@ -4,6 +4,9 @@ use Prim.Native.Nat.{ℕ}
 use mathlib.Core.Bool.{Bool, not, _&&_, _||_}
 use lib.Dec.{ltb}
 use lib.Ieee.{Float, le, ne}
+use Rattle.base_order.specs.OneByOne.{any}
+use Rattle.base_places.specs.Places.{cells}
+use Rattle.base_places.specs.declared.Cell.{Cell}
 use Rattle.elem_leaves.specs.Finite.{finite}
 use Rattle.elem_leaves.specs.Floats.{_<f_, _>f_, zero, one}
 use Rattle.elem_velocity.specs.declared.SolverVel.{SolverVel}
@@ -11,7 +14,8 @@ use Rattle.elem_velocity.specs.declared.Vels.{Vels}
 use Rattle.elem_tangent.specs.declared.ContactConstraintTangentPart.{ContactConstraintTangentPart}
 use Rattle.elem_normal.specs.declared.ContactConstraintNormalPart.{ContactConstraintNormalPart}
 use Rattle.step_contact.specs.Contact.{isFloor}
-use Rattle.step_kinds.specs.Writes.{presses, rubs}
+use Rattle.step_contact.specs.Cells.{inCell}
+use Rattle.step_kinds.specs.Table.{stores}
 use Rattle.step_contact.specs.declared.Contact.{Contact}
 use Rattle.step_contact.specs.declared.ContactHead.{ContactHead}
 use Rattle.step_contact.specs.declared.ContactPoint.{ContactPoint}
@@ -83,9 +87,12 @@ outOfRange c = headOut (c .head) || somePoint (pointOut (c .head)) c
 abbrev pub lostVel : ℕ → SolverVel → Bool
 lostVel body v = not (isFloor body) && not (finiteVel v)
 
+-- of the cells that the kind stores
+abbrev pub lostCell : ℕ → ContactPoint → Cell → Bool
+lostCell kind p c = stores kind c && not (finite (inCell c p))
+
 unfoldable pub lostImpulse : ℕ → ContactPoint → Bool
-lostImpulse kind p =
-    presses kind && not (finite (p .«normal_part» .impulse)) || rubs kind && not (finite (p .«tangent_part» .impulse))
+lostImpulse kind p = any (lostCell kind p) cells
 
 unfoldable pub unwritable : ℕ → ContactSolved → Bool
 unwritable kind s =

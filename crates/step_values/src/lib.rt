@@ -1,6 +1,7 @@
 // Numbers 8, 9 and 10 of document 01's table: what a step refuses by the floats of its contact, by
 // the velocities of its bodies, and by what it would write. Each public function is true where its
 // number's condition holds. They read; nothing here changes a contact.
+use base_places::Cell;
 use elem_leaves::is_finite;
 use elem_normal::ContactConstraintNormalPart;
 use elem_tangent::ContactConstraintTangentPart;
@@ -11,13 +12,13 @@ use step_contact::ContactHead;
 use step_contact::ContactPoint;
 use step_contact::FLOOR;
 use step_kinds::ContactSolved;
+use step_kinds::stores;
 ghost use mathlib.Core.Path.{_≡_};
-ghost use mathlib.Core.Bool.{not, _&&_};
+ghost use mathlib.Core.Bool.{_&&_};
 ghost use lib.Dec.{ltb};
-ghost use Rattle.elem_leaves.specs.Finite.{finite};
 ghost use Rattle.step_values.specs.Values.{belowCount, finiteHead, finiteNormal, finitePoint};
 ghost use Rattle.step_values.specs.Values.{finiteTangent, finiteVel, floorMoves, headOut};
-ghost use Rattle.step_values.specs.Values.{lostImpulse, lostVel, notFinite, notFiniteVels, outOfRange, pointOut, unwritable};
+ghost use Rattle.step_values.specs.Values.{lostCell, lostImpulse, lostVel, notFinite, notFiniteVels, outOfRange, pointOut, unwritable};
 
 // Whether a test holds at a point below count, given whether it holds at a and at b.
 fn below_count(head: ContactHead, at_a: bool, at_b: bool) -> bool
@@ -154,28 +155,28 @@ pub fn out_of_range(contact: Contact) -> bool
     head_out(head) | below_count(head, point_out(head, a), point_out(head, b))
 }
 
-// An impulse that is stored is not finite. Here and below the tests come one after the other, and not all at once: this
+// A cell that the kind stores is not finite. Here and below the tests come one after the other, and not all at once: this
 // is the path of every step that is done.
-fn lost_if(stored: bool, impulse: f32) -> bool
-    ensures { λ r. ⌜ r ≡ (stored && not (finite impulse)) ⌝ }
+fn lost_cell(kind: u16, point: ContactPoint, cell: Cell) -> bool
+    ensures { λ r. ⌜ r ≡ lostCell kind point cell ⌝ }
 {
-    if stored {
-        return !is_finite(impulse);
+    if stores(kind, cell) {
+        return !is_finite(point.in_cell(cell));
     }
     false
 }
 
-// An impulse that the kind writes is not finite.
+// Some cell of a point.
 fn lost_impulse(kind: u16, point: ContactPoint) -> bool
     ensures { λ r. ⌜ r ≡ lostImpulse kind point ⌝ }
 {
-    let normal_part = point.normal_part;
-    let tangent_part = point.tangent_part;
-    let presses = (kind == 1) | (kind == 3) | (kind == 4);
-    if lost_if(presses, normal_part.impulse) {
+    if lost_cell(kind, point, Cell::NormalImpulse) {
         return true;
     }
-    lost_if(kind == 2, tangent_part.impulse)
+    if lost_cell(kind, point, Cell::TangentImpulse) {
+        return true;
+    }
+    false
 }
 
 // The same at a place, if it is below count.

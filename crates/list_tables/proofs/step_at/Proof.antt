@@ -1,4 +1,5 @@
 -- `list_tables::step_at` meets its contract. A row, no row. Assumes nothing.
+use Rattle.base_places.specs.Places.{stepWidth}
 use Rattle.base_rows.proofs.Lent.{read-there, read-past}
 use Rattle.list_tables.specs.Tables.{stepAs, stepAt, stepOf}
 use mathlib.Core.Path.{refl}
@@ -33,7 +34,7 @@ returns c = read-there 2 _ _ stepOf (stepAs 0 0) (c .before .before .if1 .taken)
 
 returns-2 : tie.Need-returns-2
 unfolding stepAt
-returns-2 c = read-past 2 _ _ stepOf (stepAs 0 0) (c .if1 .left) refl
+returns-2 c = read-past stepWidth _ _ stepOf (stepAs 0 0) (c .if1 .left) refl
 
 pub step-at-spec : {M : Type 1} → statement M
 step-at-spec =

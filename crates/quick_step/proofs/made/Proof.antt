@@ -1,10 +1,10 @@
 -- `quick_step::made` meets its contract. Each arm is the routine's case for its kind, of the contact as it was read. Assumes nothing.
-use mathlib.Core.Path.{refl}
-use Rattle.quick_step.proofs.AsRead.{of-0, of-1, of-2, of-3, of-4, of-none}
+use native.Mathlib.Omega.{arith}
+use Rattle.step_kinds.specs.Table.{kindOf, kinds, routine}
+use Rattle.quick_step.proofs.AsRead.{of-kind, of-none}
 use borrow.Author.Needs.{needs}
 use Rattle.quick_step.proofs.made.Statement.{statement}
 use Rattle.quick_step.proofs.made.Tie as tie
-use Rattle.quick_step.proofs.made.Reads as reads
 
 contact-at-requires : tie.Need-contact-at-requires
 contact-at-requires c κs = search needs
@@ -40,22 +40,28 @@ contact-at-requires-6 : tie.Need-contact-at-requires-6
 contact-at-requires-6 c κs = search needs
 
 returns : tie.Need-returns
-returns c = of-0 _ _ _ _ _ ((c .before .contact-at .ensures)) ((c .before .before .match .keys1)) ((c .warmstart .ensures))
+unfolding routine kindOf kinds
+returns c = of-kind _ _ _ _ _ 0 (c .before .contact-at .ensures) (c .before .before .match .keys1) (c .warmstart .ensures)
 
 returns-2 : tie.Need-returns-2
-returns-2 c = of-1 _ _ _ _ _ ((c .before .contact-at2 .ensures)) ((c .before .before .match .keys2)) ((c .over-points .ensures))
+unfolding routine kindOf kinds
+returns-2 c = of-kind _ _ _ _ _ 1 (c .before .contact-at2 .ensures) (c .before .before .match .keys2) (c .over-points .ensures)
 
 returns-3 : tie.Need-returns-3
-returns-3 c = of-2 _ _ _ _ _ ((c .before .contact-at3 .ensures)) ((c .before .before .match .keys3)) ((c .over-points2 .ensures))
+unfolding routine kindOf kinds
+returns-3 c = of-kind _ _ _ _ _ 2 (c .before .contact-at3 .ensures) (c .before .before .match .keys3) (c .over-points2 .ensures)
 
 returns-4 : tie.Need-returns-4
-returns-4 c = of-3 _ _ _ _ _ ((c .before .contact-at4 .ensures)) ((c .before .before .match .keys4)) ((c .over-points3 .ensures))
+unfolding routine kindOf kinds
+returns-4 c = of-kind _ _ _ _ _ 3 (c .before .contact-at4 .ensures) (c .before .before .match .keys4) (c .over-points3 .ensures)
 
 returns-5 : tie.Need-returns-5
-returns-5 c = of-4 _ _ _ _ _ ((c .before .contact-at5 .ensures)) ((c .before .before .match .keys5)) ((c .solve-pair .ensures))
+unfolding routine kindOf kinds
+returns-5 c = of-kind _ _ _ _ _ 4 (c .before .contact-at5 .ensures) (c .before .before .match .keys5) (c .solve-pair .ensures)
 
 returns-6 : tie.Need-returns-6
-returns-6 c = let z = ((c .before .match .rest)) in of-none _ _ _ _ _ ((c .contact-at6 .ensures)) (z .0 .0 .0 .0 .1) (z .0 .0 .0 .1) (z .0 .0 .1) (z .0 .1) (z .1) refl
+unfolding kinds
+returns-6 c = of-none _ _ _ _ _ (c .contact-at6 .ensures) (omega arith)
 
 pub made-spec : {M : Type 1} → statement M
 made-spec =

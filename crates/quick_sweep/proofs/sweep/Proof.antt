@@ -1,5 +1,6 @@
 -- `quick_sweep::sweep` meets its contract. At first no flag is up. Assumes nothing.
 use borrow.Author.Needs.{needs}
+use Rattle.base_places.specs.Places.{mostContacts}
 use Rattle.quick_sweep.proofs.Flags.{none-up}
 use Rattle.quick_sweep.proofs.sweep.Statement.{statement}
 use Rattle.quick_sweep.proofs.sweep.Tie as tie
@@ -9,7 +10,7 @@ slice-aggregate-walk : tie.Need-slice-aggregate-walk
 slice-aggregate-walk c = search needs
 
 walk-requires : tie.Need-walk-requires
-walk-requires c κs = none-up 16384 _
+walk-requires c κs = none-up mostContacts _
 
 same-length : tie.Need-same-length
 same-length c = search needs

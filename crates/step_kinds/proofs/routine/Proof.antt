@@ -1,6 +1,7 @@
--- `step_kinds::routine` meets its contract. Each arm is the definition's case for its kind; the last has none of the five. Assumes nothing.
-use borrow.Author.Tests.{ne-eqb}
-use Rattle.step_kinds.specs.Kinds.{routine}
+-- `step_kinds::routine` meets its contract. Each arm is the table's line for its kind; the last has none. Assumes nothing.
+use native.Mathlib.Omega.{arith}
+use Rattle.step_kinds.specs.Table.{kindOf, kinds, routine}
+use Rattle.step_kinds.proofs.NoKind.{does-nothing}
 use borrow.Author.Needs.{needs}
 use Rattle.step_kinds.proofs.routine.Statement.{statement}
 use Rattle.step_kinds.proofs.routine.Tie as tie
@@ -21,28 +22,28 @@ solve-pair-requires : tie.Need-solve-pair-requires
 solve-pair-requires c κs = search needs
 
 returns : tie.Need-returns
-unfolding routine
+unfolding routine kindOf kinds
 returns c = rw (c .before .match .keys1) (c .warmstart .ensures)
 
 returns-2 : tie.Need-returns-2
-unfolding routine
+unfolding routine kindOf kinds
 returns-2 c = rw (c .before .match .keys2) (c .over-points .ensures)
 
 returns-3 : tie.Need-returns-3
-unfolding routine
+unfolding routine kindOf kinds
 returns-3 c = rw (c .before .match .keys3) (c .over-points2 .ensures)
 
 returns-4 : tie.Need-returns-4
-unfolding routine
+unfolding routine kindOf kinds
 returns-4 c = rw (c .before .match .keys4) (c .over-points3 .ensures)
 
 returns-5 : tie.Need-returns-5
-unfolding routine
+unfolding routine kindOf kinds
 returns-5 c = rw (c .before .match .keys5) (c .solve-pair .ensures)
 
 returns-6 : tie.Need-returns-6
-unfolding routine
-returns-6 c = let z = c .match .rest in simp (ne-eqb _ 0 (z .0 .0 .0 .0 .1), ne-eqb _ 1 (z .0 .0 .0 .1), ne-eqb _ 2 (z .0 .0 .1), ne-eqb _ 3 (z .0 .1), ne-eqb _ 4 (z .1))
+unfolding kinds
+returns-6 c = does-nothing (c .before .args .kind) (omega arith) _ _
 
 pub routine-spec : {M : Type 1} → statement M
 routine-spec =
