@@ -29,3 +29,6 @@ all-l false q e = e
 pub all-r : (p q : Bool) → (p && q) ≡ true → q ≡ true
 all-r true q e = e
 all-r false q e = never (sym e)
+
+pub all-both : (p q : Bool) → (p && q) ≡ true → (p ≡ true) × (q ≡ true)
+all-both p q e = (all-l p q e, all-r p q e)

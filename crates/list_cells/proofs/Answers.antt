@@ -4,7 +4,7 @@ use mathlib.Core.List.{List}
 use mathlib.Core.Logic.{_≢_}
 use mathlib.Core.Path.{_≡_, refl}
 use lib.ListN.{length}
-use Rattle.base_places.specs.Places.{answerWidth, stepWidth}
+use Rattle.base_places.specs.Places.{answerWidth}
 use Rattle.base_rows.specs.Laws.{Keeps}
 use Rattle.base_rows.specs.Rows.{row, rows}
 use Rattle.base_rows.proofs.Laws.{as-long, other-rows, row-itself}
@@ -22,7 +22,7 @@ module _ (room : List ℕ) (i : ℕ) (a : Answer) where
   unfolding answerRow
   keeps r e = refl
 
-  pub answer-there : i < rows answerWidth room → row stepWidth i (putAnswer room i a) ≡ answerRow a
+  pub answer-there : i < rows answerWidth room → row answerWidth i (putAnswer room i a) ≡ answerRow a
   unfolding putAnswer
   answer-there h = row-itself ℕ answerWidth i (λ _. answerRow a) room keeps h
 

@@ -7,7 +7,7 @@ use lib.Dec.{eqb, ltb}
 use lib.ListN.{getD}
 use borrow.Author.Tests.{eq-eqb, eqb-true, lt-ltb, ltb-true}
 use Rattle.base_places.specs.Places.{bodyWidth, floatsWidth, numbersWidth}
-use Rattle.base_words.proofs.Pick.{never}
+use Rattle.base_words.proofs.Said.{all-both, not-so}
 use Rattle.step_contact.specs.Contact.{isFloor}
 use Rattle.base_rows.specs.Rows.{row, rows}
 use Rattle.list_tables.specs.declared.Step.{Step}
@@ -16,11 +16,7 @@ use Rattle.list_sharing.specs.Own.{body, contact, isBody, isContact, joi
 use Rattle.list_sharing.specs.Sharing.{Names, There}
 use Rattle.list_sharing.proofs.Found.{numbers-of}
 
--- two tests that both hold, and two of which one does
-hold-both : (a b : Bool) → (a && b) ≡ true → (a ≡ true) × (b ≡ true)
-hold-both true b e = (refl, e)
-hold-both false b e = never (sym e)
-
+-- two tests of which one holds
 one-holds : {b one two x : ℕ} → b ≡ x → (x ≡ one) ⊎ (x ≡ two) → (eqb b one || eqb b two) ≡ true
 one-holds {b} {one} {two} e (inl p) = rw (eq-eqb b one (e ∙ p))
 one-holds {b} {one} {two} e (inr p) = by-case (eqb b one) (eq-eqb b two (e ∙ p))
@@ -33,11 +29,6 @@ hold-one : (a b : Bool) → (a || b) ≡ true → (a ≡ true) ⊎ (b ≡ true)
 hold-one true b e = inl refl
 hold-one false b e = inr e
 
--- a test that does not hold
-not-hold : (a : Bool) → not a ≡ true → a ≡ false
-not-hold true e = sym e
-not-hold false e = refl
-
 -- a contact of the table
 module _ (t : Tables) (k : ℕ) where
   is-contact : There t k → isContact (shape t) k ≡ true
@@ -47,7 +38,7 @@ module _ (t : Tables) (k : ℕ) where
   contact-is : isContact (shape t) k ≡ true → There t k
   unfolding isContact
   contact-is e =
-      let both = hold-both (ltb k (rows numbersWidth (t .numbers))) (ltb k (rows floatsWidth (t .floats))) e in
+      let both = all-both (ltb k (rows numbersWidth (t .numbers))) (ltb k (rows floatsWidth (t .floats))) e in
       (ltb-true k (rows numbersWidth (t .numbers)) (both .0), ltb-true k (rows floatsWidth (t .floats)) (both .1))
 
 -- a body of the table that is not the floor
@@ -59,8 +50,8 @@ module _ (t : Tables) (b : ℕ) where
   body-is : isBody (shape t) b ≡ true → (isFloor b ≡ false) × (b < rows bodyWidth (t .bodies))
   unfolding isBody
   body-is e =
-      let both = hold-both (ltb b (rows bodyWidth (t .bodies))) (not (isFloor b)) e in
-      (not-hold (isFloor b) (both .1), ltb-true b (rows bodyWidth (t .bodies)) (both .0))
+      let both = all-both (ltb b (rows bodyWidth (t .bodies))) (not (isFloor b)) e in
+      (not-so (isFloor b) (both .1), ltb-true b (rows bodyWidth (t .bodies)) (both .0))
 
 module _ (t : Tables) (s : Step) where
   -- the two body numbers of the step's contact
@@ -94,7 +85,7 @@ module _ (t : Tables) (s : Step) where
   pub contact-own : (k : ℕ) → touches (shape t) s (contact k) ≡ true → (k ≡ s .contact) × There t k
   unfolding touches
   contact-own k e =
-      let both = hold-both (eqb k (s .contact)) (isContact (shape t) k) e in
+      let both = all-both (eqb k (s .contact)) (isContact (shape t) k) e in
       (eqb-true k (s .contact) (both .0), contact-is t k (both .1))
 
   -- so is each body that it joins, if that is in the table and not the floor ..
@@ -106,6 +97,6 @@ module _ (t : Tables) (s : Step) where
   pub body-own : (b : ℕ) → touches (shape t) s (body b) ≡ true → Names t s b × (isFloor b ≡ false) × (b < rows bodyWidth (t .bodies))
   unfolding touches
   body-own b e =
-      let all = hold-both (isContact (shape t) (s .contact) && joins (shape t) (s .contact) b) (isBody (shape t) b) e in
-      let its = hold-both (isContact (shape t) (s .contact)) (joins (shape t) (s .contact) b) (all .0) in
+      let all = all-both (isContact (shape t) (s .contact) && joins (shape t) (s .contact) b) (isBody (shape t) b) e in
+      let its = all-both (isContact (shape t) (s .contact)) (joins (shape t) (s .contact) b) (all .0) in
       (joins-of b (contact-is t (s .contact) (its .0)) (its .1), body-is t b (all .1) .0, body-is t b (all .1) .1)

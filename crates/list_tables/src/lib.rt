@@ -144,10 +144,7 @@ pub fn contact_at(numbers: &[u16], floats: &[f32], k: usize) -> Contact
     }
     let i = k * NUMBERS_WIDTH;
     let j = k * FLOATS_WIDTH;
-    contact_of(
-        &numbers[i..i + NUMBERS_WIDTH],
-        &floats[j..j + FLOATS_WIDTH],
-    )
+    contact_of(&numbers[i..i + NUMBERS_WIDTH], &floats[j..j + FLOATS_WIDTH])
 }
 
 fn step_of(s: &[u16]) -> Step
