@@ -38,6 +38,11 @@ pub const IMPULSE: usize = 5;
 
 pub const ACCUMULATOR: usize = 6;
 
+// The impulses among a point's floats.
+pub const NORMAL_IMPULSE: usize = IMPULSE;
+
+pub const TANGENT_IMPULSE: usize = NORMAL_WIDTH + IMPULSE;
+
 // The cells of a point that a step may store.
 pub enum Cell {
     NormalImpulse,
@@ -50,8 +55,8 @@ impl Cell {
         ensures { λ r. ⌜ r ≡ Places·place self ⌝ }
     {
         match self {
-            Cell::NormalImpulse => IMPULSE,
-            Cell::TangentImpulse => NORMAL_WIDTH + IMPULSE,
+            Cell::NormalImpulse => NORMAL_IMPULSE,
+            Cell::TangentImpulse => TANGENT_IMPULSE,
         }
     }
 
