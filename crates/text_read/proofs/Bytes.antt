@@ -7,9 +7,11 @@ use mathlib.Core.Path.{_≡_, refl, sym}
 use lib.ListN.{drop, getD, length, length-drop, take}
 use lib.Seq.{getD-drop, length-take-le, take-suc}
 use Rattle.base_words.proofs.Pick.{pass, take as pick}
-use Rattle.text_line.specs.Night.{Night, Room}
-use Rattle.text_line.specs.Lines.{readLine}
-use Rattle.text_line.specs.Filled.{ReadLine, Sane, cameOf, nightOf, roomOf}
+use Rattle.base_places.specs.Places.{mostInLine}
+use Rattle.text_line.specs.Night.{Night}
+use Rattle.text_line.specs.Lines.{LineCame, readLine}
+use Rattle.text_line.specs.Filled.{Came, ReadLine, Sane, cameOf, nightOf, roomOf}
+use Rattle.text_line.specs.declared.Cells.{Cells}
 use Rattle.text_line.specs.declared.State.{State}
 use Rattle.text_line.specs.declared.LineRead.{LineRead}
 use Rattle.text_line.specs.declared.LineRead.the-variants.{Good, Bad}
@@ -35,33 +37,29 @@ bytes-on a i x h p =
     let g : i - a < length (drop a x) = rw length-drop (omega arith) in
     rw (e, take-suc (drop a x) (i - a) 0 g, getD-drop, f)
 
-module _ (room : Room) (line : List ℕ) (n : ℕ) (t : Night) {b : ℕ} where
+module _ (room : Cells) (line : List ℕ) (n : ℕ) (t : Night) {b : ℕ} where
   feed-line : b ≡ 10 → feed room (reading line n t) b ≡ lineEnded n (readLine room t line)
   unfolding feed
   feed-line e = sym (pick _ (eq-eqb _ _ e) refl)
 
-  feed-on : (b ≡ 10 → ⊥) → length line < 160 → feed room (reading line n t) b ≡ reading (line ++ (b ∷ [])) n t
+  feed-on : (b ≡ 10 → ⊥) → length line < mostInLine → feed room (reading line n t) b ≡ reading (line ++ (b ∷ [])) n t
   unfolding feed
   feed-on e h = sym (pass _ (ne-eqb _ _ e) (pick _ (lt-ltb _ _ h) refl))
 
-  feed-long : (b ≡ 10 → ⊥) → 160 ≤ length line → feed room (reading line n t) b ≡ refused n 1
+  feed-long : (b ≡ 10 → ⊥) → mostInLine ≤ length line → feed room (reading line n t) b ≡ refused n 1
   unfolding feed
   feed-long e h = sym (pass _ (ne-eqb _ _ e) (pass _ (le-ltb _ _ h) refl))
 
 -- a line that was read, as the text after it
-module _ {st : State} {line bodies numbers floats steps : List ℕ} {r : LineRead} {bodies′ numbers′ floats′ steps′ : List ℕ} (k : ℕ)
-    (d : ReadLine st line bodies numbers floats steps r bodies′ numbers′ floats′ steps′) where
-  pub good-line : (next : State) → r ≡ Good next
-      → lineEnded k (readLine (roomOf bodies numbers floats steps) (nightOf st bodies numbers floats steps) line)
-      ≡ reading [] (k + 1) (nightOf next bodies′ numbers′ floats′ steps′)
+module _ {x : LineCame} {r : LineRead} {bodies numbers floats steps : List ℕ} (k : ℕ) (d : Came x r bodies numbers floats steps) where
+  pub good-line : (next : State) → r ≡ Good next → lineEnded k x ≡ reading [] (k + 1) (nightOf next bodies numbers floats steps)
   unfolding cameOf lineEnded
   good-line next e = rw (← d .is, e)
 
-  pub good-sane : (next : State) → r ≡ Good next → Sane next bodies′ numbers′ floats′ steps′
+  pub good-sane : (next : State) → r ≡ Good next → Sane next bodies numbers floats steps
   good-sane next e = rw e at (d .sane)
 
-  pub bad-line : (reason : ℕ) → r ≡ Bad reason
-      → lineEnded k (readLine (roomOf bodies numbers floats steps) (nightOf st bodies numbers floats steps) line) ≡ refused k reason
+  pub bad-line : (reason : ℕ) → r ≡ Bad reason → lineEnded k x ≡ refused k reason
   unfolding cameOf lineEnded
   bad-line reason e = rw (← d .is, e)
 
@@ -89,12 +87,12 @@ module _ (k : Cursor) (x : List ℕ) (i : ℕ) (bodies numbers floats steps : Li
     unfolding fedText textAt
     line-bad reason q = record { is = rw (feed-line _ _ _ _ e, bad-line (k .number) d reason q); fine = 0 }
 
-  pub on : (getD x i 0 ≡ 10 → ⊥) → i - k .start < 160
+  pub on : (getD x i 0 ≡ 10 → ⊥) → i - k .start < mostInLine
       → Feeds (roomOf bodies numbers floats steps) (textAt k x i bodies numbers floats steps) (getD x i 0) x i (Next k)
       bodies numbers floats steps
   unfolding fedText textAt
   on e p =
-      let short : length (bytes (k .start) i x) < 160 = rw (bytes-length (k .start) i x (omega arith)) p in
+      let short : length (bytes (k .start) i x) < mostInLine = rw (bytes-length (k .start) i x (omega arith)) p in
       record {
         is =
             rw (
@@ -110,12 +108,12 @@ module _ (k : Cursor) (x : List ℕ) (i : ℕ) (bodies numbers floats steps : Li
         };
       }
 
-  pub long : (getD x i 0 ≡ 10 → ⊥) → 160 ≤ i - k .start
+  pub long : (getD x i 0 ≡ 10 → ⊥) → mostInLine ≤ i - k .start
       → Feeds (roomOf bodies numbers floats steps) (textAt k x i bodies numbers floats steps) (getD x i 0) x i (Refused (k .number) 1)
       bodies numbers floats steps
   unfolding fedText textAt
   long e p =
-      let many : 160 ≤ length (bytes (k .start) i x) = rw (bytes-length (k .start) i x (omega arith)) p in
+      let many : mostInLine ≤ length (bytes (k .start) i x) = rw (bytes-length (k .start) i x (omega arith)) p in
       record {
         is =
             rw

@@ -3,21 +3,22 @@ use Prim.Native.Nat.{ℕ, _+_, _≤_, _<_}
 use native.Mathlib.Numerals.{add-one}
 use native.Mathlib.Omega.{arith}
 use borrow.Author.Tests.{eq-eqb, ne-eqb}
-use mathlib.Core.Bool.{Bool, true, false, _&&_}
+use mathlib.Core.Bool.{Bool, true, false}
 use mathlib.Core.List.{List, [], _∷_, _++_}
 use mathlib.Core.Path.{_≡_, refl, sym, ap, _∙_}
-use lib.Dec.{leb}
 use lib.ListN.{drop, drop-of-length-le, getD, length}
 use lib.Seq.{drop-cons}
 use Rattle.base_words.specs.Choice.{if_then_else_}
 use Rattle.base_words.proofs.Pick.{pass, take}
-use Rattle.text_line.specs.Night.{Night, Room, blank}
-use Rattle.text_line.specs.Lines.{readLine}
+use Rattle.text_line.specs.Night.{Night, blank}
+use Rattle.text_line.specs.Lines.{inContact, readLine}
 use Rattle.text_line.specs.Filled.{ReadLine, Sane, nightOf, roomOf}
+use Rattle.text_line.specs.declared.Cells.{Cells}
+use Rattle.text_line.specs.declared.Place.the-variants.{Bodies}
 use Rattle.text_line.specs.declared.State.{State}
 use Rattle.text_line.specs.declared.LineRead.{LineRead}
 use Rattle.text_line.specs.declared.LineRead.the-variants.{Good, Bad}
-use Rattle.text_read.specs.Text.{Text, closed, cutShort, feed, feeds, lineEnded, reading, refused, textOf, wholeContacts}
+use Rattle.text_read.specs.Text.{Text, closed, feed, feeds, lineEnded, reading, refused, textOf, wholeContacts}
 use Rattle.text_read.specs.AtByte.{Feeds, Fine, ReadWhole, SaneEnd, endText, fedText, textAt, wholeEnd}
 use Rattle.text_read.specs.declared.Cursor.{Cursor}
 use Rattle.text_read.specs.declared.Fed.{Fed}
@@ -37,8 +38,8 @@ module _ (st : State) (number : ℕ) (bodies numbers floats steps : List ℕ) wh
 
   whole-is : endText (wholeEnd st number) bodies numbers floats steps
       ≡ wholeContacts (reading [] number (nightOf st bodies numbers floats steps))
-  unfolding wholeEnd wholeContacts cutShort nightOf
-  whole-is = whole-by (leb 1 (st .place) && leb (st .place) 4)
+  unfolding wholeEnd wholeContacts nightOf
+  whole-is = whole-by (inContact (st .place))
 
   sane-by : (cut : Bool) → Sane st bodies numbers floats steps
       → SaneEnd (if cut then BadEnd number 3 else Whole st number) bodies numbers floats steps
@@ -47,10 +48,10 @@ module _ (st : State) (number : ℕ) (bodies numbers floats steps : List ℕ) wh
 
   sane-whole : Sane st bodies numbers floats steps → SaneEnd (wholeEnd st number) bodies numbers floats steps
   unfolding wholeEnd
-  sane-whole h = sane-by (leb 1 (st .place) && leb (st .place) 4) h
+  sane-whole h = sane-by (inContact (st .place)) h
 
 -- the end
-module _ (room : Room) (line : List ℕ) (number : ℕ) (t : Night) where
+module _ (room : Cells) (line : List ℕ) (number : ℕ) (t : Night) where
   closed-empty : length line ≡ 0 → closed room (reading line number t) ≡ wholeContacts (reading [] number t)
   unfolding closed
   closed-empty h = ap wholeContacts (sym (take _ (eq-eqb _ _ h) refl))
@@ -59,7 +60,7 @@ module _ (room : Room) (line : List ℕ) (number : ℕ) (t : Night) where
   unfolding closed
   closed-line h = ap wholeContacts (sym (pass _ (ne-eqb _ _ h) refl))
 
-closed-refused : (room : Room) (number reason : ℕ) → closed room (refused number reason) ≡ refused number reason
+closed-refused : (room : Cells) (number reason : ℕ) → closed room (refused number reason) ≡ refused number reason
 unfolding closed
 closed-refused room number reason = refl
 
@@ -100,7 +101,7 @@ module _ (k : Cursor) (x bodies numbers floats steps : List ℕ) (v : Fine k (le
       }
 
 -- the loop
-module _ (room : Room) where
+module _ (room : Cells) where
   feeds-cons : (t : Text) (byte : ℕ) (x : List ℕ) → feeds room t (byte ∷ x) ≡ feeds room (feed room t byte) x
   unfolding feeds
   feeds-cons t byte x = refl
@@ -131,11 +132,11 @@ unfolding fedText
 fed-refused number reason x i bodies numbers floats steps = refl
 
 -- from byte i on the text comes to g
-pub record Left (room : Room) (k : Cursor) (x : List ℕ) (i : ℕ) (bodies numbers floats steps : List ℕ) (g : Text) : Type 0 where
+pub record Left (room : Cells) (k : Cursor) (x : List ℕ) (i : ℕ) (bodies numbers floats steps : List ℕ) (g : Text) : Type 0 where
   pub same : feeds room (textAt k x i bodies numbers floats steps) (drop i x) ≡ g
 
-pub begin : (room : Room) (x bodies numbers floats steps : List ℕ)
-    → Left room (record { st = record { place = 0; bodies = 0; numbers = 0; floats = 0; steps = 0 }; start = 0; number = 1 }) x 0
+pub begin : (room : Cells) (x bodies numbers floats steps : List ℕ)
+    → Left room (record { st = record { place = Bodies; bodies = 0; numbers = 0; floats = 0; steps = 0 }; start = 0; number = 1 }) x 0
     bodies numbers floats steps (feeds room (reading [] 1 blank) x)
 unfolding textAt nightOf blank
 begin room x bodies numbers floats steps = record { same = refl }
@@ -176,11 +177,11 @@ module _ (bodies₀ numbers₀ floats₀ steps₀ : List ℕ) {k : Cursor} {x : 
       let z : textAt k x (length x) bodies numbers floats steps ≡ g = rw (← e) (rw (drop-of-length-le x l′, feeds-nil) at (v .same)) in
       rw (m, z, same-room bodies numbers floats steps bodies₀ numbers₀ floats₀ steps₀ p q u w)
 
-pub fine : {room : Room} {t : Text} {byte : ℕ} {x : List ℕ} {i : ℕ} {r : Fed} {bodies numbers floats steps : List ℕ}
+pub fine : {room : Cells} {t : Text} {byte : ℕ} {x : List ℕ} {i : ℕ} {r : Fed} {bodies numbers floats steps : List ℕ}
     → Feeds room t byte x i r bodies numbers floats steps → (k : Cursor) → r ≡ Next k → Fine k (i + 1) bodies numbers floats steps
 fine d k e = rw e at (d .fine)
 
-pub text-of : (room : Room) (x : List ℕ) → textOf room x ≡ closed room (feeds room (reading [] 1 blank) x)
+pub text-of : (room : Cells) (x : List ℕ) → textOf room x ≡ closed room (feeds room (reading [] 1 blank) x)
 unfolding textOf
 text-of room x = refl
 

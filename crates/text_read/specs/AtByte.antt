@@ -1,13 +1,13 @@
 -- The program's cursor in its input as a text being read, for the functions of this crate. Assumes nothing.
 use Prim.Native.Nat.{ℕ, _+_, _-_, _≤_}
-use mathlib.Core.Bool.{_&&_}
 use mathlib.Core.List.{List, []}
 use mathlib.Core.Path.{_≡_}
-use lib.Dec.{leb}
 use lib.ListN.{drop, take}
 use Rattle.base_words.specs.Choice.{if_then_else_}
-use Rattle.text_line.specs.Night.{Room}
+use Rattle.base_places.specs.Places.{mostInLine}
+use Rattle.text_line.specs.Lines.{inContact}
 use Rattle.text_line.specs.Filled.{Sane, nightOf}
+use Rattle.text_line.specs.declared.Cells.{Cells}
 use Rattle.text_line.specs.declared.State.{State}
 use Rattle.text_read.specs.Text.{Text, feed, reading, refused}
 use Rattle.text_read.specs.declared.Cursor.{Cursor}
@@ -32,12 +32,12 @@ endText (Bad number reason) bodies numbers floats steps = refused number reason
 
 -- what has been read, unless a contact is cut short
 unfoldable pub wholeEnd : State → ℕ → End
-wholeEnd st number = if leb 1 (st .place) && leb (st .place) 4 then Bad number 3 else Whole st number
+wholeEnd st number = if inContact (st .place) then Bad number 3 else Whole st number
 
 pub record Fine (k : Cursor) (i : ℕ) (bodies numbers floats steps : List ℕ) : Type 0 where
   pub sane : Sane (k .st) bodies numbers floats steps
   pub start : k .start ≤ i
-  pub short : i ≤ k .start + 160
+  pub short : i ≤ k .start + mostInLine
   pub number : k .number ≤ i + 1
 
 abbrev pub FineFed : Fed → ℕ → List ℕ → List ℕ → List ℕ → List ℕ → Type 0
@@ -45,7 +45,7 @@ FineFed (Next k) i bodies numbers floats steps = Fine k i bodies numbers floats 
 FineFed (Refused number reason) i bodies numbers floats steps = ℕ
 
 -- byte i of x was fed
-pub record Feeds (room : Room) (before : Text) (byte : ℕ) (x : List ℕ) (i : ℕ) (r : Fed)
+pub record Feeds (room : Cells) (before : Text) (byte : ℕ) (x : List ℕ) (i : ℕ) (r : Fed)
     (bodies′ numbers′ floats′ steps′ : List ℕ) : Type 0 where
   pub is : fedText r x (i + 1) bodies′ numbers′ floats′ steps′ ≡ feed room before byte
   pub fine : FineFed r (i + 1) bodies′ numbers′ floats′ steps′

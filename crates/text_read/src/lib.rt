@@ -1,5 +1,7 @@
 // A text, byte by byte and line by line.
+use base_places::MOST_IN_LINE;
 use text_line::LineRead;
+use text_line::Place;
 use text_line::State;
 ghost use mathlib.Core.Path.{_≡_};
 ghost use Prim.Native.Nat.{_<_};
@@ -58,7 +60,7 @@ fn feed_byte(
             }),
             LineRead::Bad(reason) => Fed::Refused(number, reason),
         }
-    } else if i - start < 160 {
+    } else if i - start < MOST_IN_LINE {
         Fed::Next(k)
     } else {
         Fed::Refused(number, 1)
@@ -70,7 +72,7 @@ fn whole_contacts(st: State, number: usize) -> End
     ensures { λ r. ⌜ r ≡ wholeEnd st number ⌝ }
 {
     let place = st.place;
-    if (1 <= place) & (place <= 4) {
+    if text_line::in_contact(place) {
         End::Bad(number, 3)
     } else {
         End::Whole(st, number)
@@ -121,7 +123,7 @@ pub fn read_text(
 {
     let mut k = Cursor {
         st: State {
-            place: 0,
+            place: Place::Bodies,
             bodies: 0,
             numbers: 0,
             floats: 0,
