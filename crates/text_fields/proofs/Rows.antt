@@ -5,19 +5,18 @@ use borrow.Author.Tests.{eq-eqb, ltb-false, ltb-true, ne-eqb}
 use mathlib.Core.Bool.{Bool, true, false, _&&_}
 use mathlib.Core.List.{List, [], _∷_}
 use mathlib.Core.Path.{_≡_, refl, sym, _∙_}
-use lib.Dec.{lit≤, ltb}
+use lib.Dec.{ltb}
 use lib.ListN.{drop, getD, length, take}
 use lib.Seq.{length-take-le}
-use Rattle.base_places.specs.Places.{normalWidth}
 use Rattle.base_words.specs.Choice.{if_then_else_}
 use Rattle.text_fields.specs.Fields.{Nothing, Says, Taken, ended, fields, fieldsFrom, takes, thenBits, untilTab, values}
-use Rattle.text_fields.specs.Got.{ReadFields, ReadRow, gotFrom, rowSays}
-use Rattle.text_fields.specs.Letters.{afterLetter, counts, letterIn, letterOf, lineLetter, says}
-use Rattle.text_fields.specs.declared.Counts.{Counts}
+use Rattle.text_fields.specs.Got.{Adds, ReadFields, ReadRow, gotFrom, rowSays}
+use Rattle.text_fields.specs.Letters.{afterLetter, asked, letterIn, letterOf, lineLetter, says}
+use Rattle.text_fields.specs.declared.Cells.{Cells}
 use Rattle.text_fields.specs.declared.Form.the-variants.{Decimal, Hex}
 use Rattle.text_fields.specs.declared.Got.{Got}
 use Rattle.text_fields.specs.declared.Letter.{Letter}
-use Rattle.text_fields.specs.declared.Letter.the-variants.{Body, Contact, Normal, Tangent, Step, Other}
+use Rattle.text_fields.specs.declared.Letter.the-variants.{Other}
 use Rattle.text_fields.specs.declared.Row.{Row}
 use Rattle.text_fields.proofs.Until.{first, from-zero, past}
 
@@ -51,8 +50,7 @@ module _ (s : List ℕ) (end : ℕ) (at-end : end ≡ 0 + untilTab (drop 0 s)) w
       rw (parted, ne-eqb _ _ other)
 
   -- what the fields after it say: d decimal numbers, then k floats
-  module _ (l : Letter) {d k : ℕ} (decimals : d ≡ counts l .decimals) (floats : k ≡ counts l .floats) {one two : Got}
-      (numbers : ReadFields Decimal s (end + 1) d one) (bits : ReadFields Hex s (one .next) k two) where
+  module _ {d k : ℕ} {one two : Got} (numbers : ReadFields Decimal s (end + 1) d one) (bits : ReadFields Hex s (one .next) k two) where
     -- by whether all were good, and a field is left over
     ends : (good good2 over : Bool) → ltb (length s) (two .next) ≡ over
         → gotFrom good2 (two .next) (two .values) k s ≡ takes Hex [] k (fieldsFrom s (one .next))
@@ -64,27 +62,18 @@ module _ (s : List ℕ) (end : ℕ) (at-end : end ≡ 0 + untilTab (drop 0 s)) w
     ends true true true e t = rw (← t, past s (two .next) (ltb-true _ _ e))
     ends true true false e t = rw (← t, first s (two .next) (ltb-false _ _ e))
 
-    pub whole-row : ReadRow l s
-        (record { good = one .good && two .good && ltb (length s) (two .next); numbers = one .values; bits = two .values })
+    said : (l : Letter) → d ≡ asked Decimal l → k ≡ asked Hex l
+        → ReadRow l s (record { good = one .good && two .good && ltb (length s) (two .next); numbers = one .values; bits = two .values })
     unfolding rowSays says values
-    whole-row = record {
+    said l p q = record {
       is =
-          rw (after, ← decimals, ← floats, ← numbers .is)
+          rw (after, ← p, ← q, ← numbers .is)
           (ends (one .good) (two .good) (ltb (length s) (two .next)) refl (bits .is));
       small = numbers .small;
     }
 
--- a letter asks for no more than a row has
-few : (l : Letter) → (counts l .decimals ≤ normalWidth) × (counts l .floats ≤ normalWidth)
-few Body = (lit≤ tt, lit≤ tt)
-few Contact = (lit≤ tt, lit≤ tt)
-few Normal = (lit≤ tt, lit≤ tt)
-few Tangent = (lit≤ tt, lit≤ tt)
-few Step = (lit≤ tt, lit≤ tt)
-few Other = (lit≤ tt, lit≤ tt)
-
-pub few-decimals : (l : Letter) {d : ℕ} → d ≡ counts l .decimals → d ≤ normalWidth
-few-decimals l e = rw e (few l .0)
-
-pub few-floats : (l : Letter) {k : ℕ} → k ≡ counts l .floats → k ≤ normalWidth
-few-floats l e = rw e (few l .1)
+  pub whole-row : (l : Letter) {cells : Cells} {one two : Got} → Adds l cells
+      → ReadFields Decimal s (end + 1) (cells .numbers + cells .steps) one
+      → ReadFields Hex s (one .next) (cells .bodies + cells .floats) two
+      → ReadRow l s (record { good = one .good && two .good && ltb (length s) (two .next); numbers = one .values; bits = two .values })
+  whole-row l a numbers bits = said numbers bits l (rw (a .numbers, a .steps)) (rw (a .bodies, a .floats))

@@ -1,13 +1,15 @@
 -- What the functions that read fields hand to each other, and to those that read lines. For the functions of this crate and of those
 -- above. Assumes nothing.
-use Prim.Native.Nat.{ℕ, suc, _≤_}
+use Prim.Native.Nat.{ℕ, suc, _+_, _≤_}
 use mathlib.Core.Bool.{Bool}
 use mathlib.Core.List.{List, [], _∷_, _++_}
 use mathlib.Core.Path.{_≡_}
 use lib.ListN.{take}
 use Rattle.base_words.specs.Choice.{if_then_else_}
+use Rattle.base_places.specs.Places.{normalWidth}
 use Rattle.text_fields.specs.Fields.{None, Nothing, Says, Taken, These, Values, fieldsFrom, takes}
-use Rattle.text_fields.specs.Letters.{counts, says}
+use Rattle.text_fields.specs.Letters.{adds, asked, says}
+use Rattle.text_fields.specs.declared.Cells.{Cells}
 use Rattle.text_fields.specs.declared.Field.{Field}
 use Rattle.text_fields.specs.declared.Field.the-variants.{Holds, Bad}
 use Rattle.text_fields.specs.declared.Form.{Form}
@@ -25,6 +27,14 @@ most Hex = 0xffff_ffff
 abbrev pub Small : ℕ → List ℕ → Type 0
 Small m [] = Unit
 Small m (n ∷ l) = (n ≤ m) × Small m l
+
+-- what a letter adds, no more of either form than an N line has
+pub record Adds (l : Letter) (r : Cells) : Type 0 where
+  pub bodies : r .bodies ≡ adds l .bodies
+  pub numbers : r .numbers ≡ adds l .numbers
+  pub floats : r .floats ≡ adds l .floats
+  pub steps : r .steps ≡ adds l .steps
+  pub few : (r .numbers + r .steps ≤ normalWidth) × (r .bodies + r .floats ≤ normalWidth)
 
 -- one field was read: one more is taken with its number, or none
 pub record ReadField (form : Form) (s : List ℕ) (at : ℕ) (r : Field) : Type 0 where
@@ -44,7 +54,7 @@ pub record ReadFields (form : Form) (s : List ℕ) (from n : ℕ) (r : Got) : Ty
 
 -- what a row's first cells say
 unfoldable pub rowSays : Letter → Row → Values
-rowSays l r = if r .good then Says (take (counts l .decimals) (r .numbers)) (take (counts l .floats) (r .bits)) else Nothing
+rowSays l r = if r .good then Says (take (asked Decimal l) (r .numbers)) (take (asked Hex l) (r .bits)) else Nothing
 
 -- a whole line was read
 pub record ReadRow (l : Letter) (line : List ℕ) (r : Row) : Type 0 where

@@ -11,8 +11,8 @@ ghost use Prim.Native.Nat.{_+_, _≤_};
 ghost use lib.ListN.{length, drop};
 ghost use Rattle.base_places.specs.Places.{normalWidth};
 ghost use Rattle.text_fields.specs.Fields.{inForm, untilTab};
-ghost use Rattle.text_fields.specs.Letters.{counts, letterOf, lineLetter};
-ghost use Rattle.text_fields.specs.Got.{ReadField, ReadFields, ReadRow};
+ghost use Rattle.text_fields.specs.Letters.{letterOf, lineLetter};
+ghost use Rattle.text_fields.specs.Got.{Adds, ReadField, ReadFields, ReadRow};
 
 pub enum Letter {
     Body,
@@ -29,10 +29,12 @@ pub enum Form {
     Hex,
 }
 
-// How many fields of each form follow a letter: decimal numbers, then floats.
-pub struct Counts {
-    pub decimals: usize,
+// So many numbers of each table: bodies' floats, contacts' numbers and floats, steps' numbers.
+pub struct Cells {
+    pub bodies: usize,
+    pub numbers: usize,
     pub floats: usize,
+    pub steps: usize,
 }
 
 // What a field says, and the byte after the tab that ends it.
@@ -96,35 +98,28 @@ pub fn line_letter(line: &[u8]) -> Letter
     }
 }
 
-fn count_fields(l: Letter) -> Counts
-    ensures { λ r. ⌜ (r .decimals ≡ counts l .decimals) × (r .floats ≡ counts l .floats) ⌝ }
+// How many numbers a line adds to each table.
+pub fn adds(l: Letter) -> Cells
+    ensures { λ r. ⌜ Adds l r ⌝ }
 {
+    let mut cells = Cells {
+        bodies: 0,
+        numbers: 0,
+        floats: 0,
+        steps: 0,
+    };
     match l {
-        Letter::Body => Counts {
-            decimals: 0,
-            floats: BODY_WIDTH,
-        },
-        Letter::Contact => Counts {
-            decimals: NUMBERS_WIDTH,
-            floats: HEAD_WIDTH,
-        },
-        Letter::Normal => Counts {
-            decimals: 0,
-            floats: NORMAL_WIDTH,
-        },
-        Letter::Tangent => Counts {
-            decimals: 0,
-            floats: TANGENT_WIDTH,
-        },
-        Letter::Step => Counts {
-            decimals: STEP_WIDTH,
-            floats: 0,
-        },
-        Letter::Other => Counts {
-            decimals: 0,
-            floats: 0,
-        },
+        Letter::Body => cells.bodies = BODY_WIDTH,
+        Letter::Contact => {
+            cells.numbers = NUMBERS_WIDTH;
+            cells.floats = HEAD_WIDTH;
+        }
+        Letter::Normal => cells.floats = NORMAL_WIDTH,
+        Letter::Tangent => cells.floats = TANGENT_WIDTH,
+        Letter::Step => cells.steps = STEP_WIDTH,
+        Letter::Other => {}
     }
+    cells
 }
 
 fn number(form: Form, s: &[u8]) -> Number
@@ -187,10 +182,10 @@ fn read_fields(form: Form, s: &[u8], from: usize, n: usize) -> Got
 pub fn read_row(l: Letter, line: &[u8]) -> Row
     ensures { λ r. ⌜ ReadRow l (now (line .entry)) r ⌝ }
 {
-    let counts = count_fields(l);
+    let cells = adds(l);
     let end = field_end(line, 0);
-    let first = read_fields(Form::Decimal, line, end + 1, counts.decimals);
-    let second = read_fields(Form::Hex, line, first.next, counts.floats);
+    let first = read_fields(Form::Decimal, line, end + 1, cells.numbers + cells.steps);
+    let second = read_fields(Form::Hex, line, first.next, cells.bodies + cells.floats);
     let numbers = first.values;
     let bits = second.values;
     let next = second.next;

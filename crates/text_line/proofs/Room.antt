@@ -9,12 +9,14 @@ use lib.Dec.{lit≤, ltb}
 use lib.ListN.{length, take}
 use lib.Seq.{length-take-le}
 use Rattle.base_words.proofs.Said.{none-l, none-r}
+use Rattle.text_fields.specs.Got.{Adds}
+use Rattle.text_fields.specs.Letters.{adds}
+use Rattle.text_fields.specs.declared.Cells.{Cells}
 use Rattle.text_fields.specs.declared.Letter.{Letter}
 use Rattle.text_fields.specs.declared.Letter.the-variants.{Body, Contact, Normal, Tangent, Step, Other}
 use Rattle.text_line.specs.Night.{Night}
-use Rattle.text_line.specs.Lines.{adds, asksFloats, full, lacks}
-use Rattle.text_line.specs.Filled.{Adds, Full, HasRoom, Sane, nightOf, roomOf}
-use Rattle.text_line.specs.declared.Cells.{Cells}
+use Rattle.text_line.specs.Lines.{asksFloats, full, lacks}
+use Rattle.text_line.specs.Filled.{Full, HasRoom, Sane, nightOf, roomOf}
 use Rattle.text_line.specs.declared.State.{State}
 
 left-by : (size used more : ℕ) (t : Bool) → ltb (size - used) more ≡ t → used ≤ size → t ≡ ltb size (used + more)
@@ -49,13 +51,13 @@ roomy room l t e =
     (lacks (room .floats) (asksFloats l) (t .floats)) (lacks (room .steps) (adds l .steps) (t .steps)) e
 
 -- a contact asks for the floats of its C line, and more
-asked : (l : Letter) → adds l .floats ≤ asksFloats l
-asked Body = lit≤ tt
-asked Contact = lit≤ tt
-asked Normal = lit≤ tt
-asked Tangent = lit≤ tt
-asked Step = lit≤ tt
-asked Other = lit≤ tt
+no-less : (l : Letter) → adds l .floats ≤ asksFloats l
+no-less Body = lit≤ tt
+no-less Contact = lit≤ tt
+no-less Normal = lit≤ tt
+no-less Tangent = lit≤ tt
+no-less Step = lit≤ tt
+no-less Other = lit≤ tt
 
 module _ (l : Letter) (st : State) (bodies numbers floats steps : List ℕ) (sane : Sane st bodies numbers floats steps) where
   -- the four tests
@@ -79,7 +81,7 @@ module _ (l : Letter) (st : State) (bodies numbers floats steps : List ℕ) (san
       let r = roomy (roomOf bodies numbers floats steps) l (nightOf st bodies numbers floats steps) h in (
         fits bodies (st .bodies) (adds l .bodies) (sane .bodies-fit) (r .0),
         fits numbers (st .numbers) (adds l .numbers) (sane .numbers-fit) (r .1),
-        omega (arith, asked l, fits floats (st .floats) (asksFloats l) (sane .floats-fit) (r .2)),
+        omega (arith, no-less l, fits floats (st .floats) (asksFloats l) (sane .floats-fit) (r .2)),
         fits steps (st .steps) (adds l .steps) (sane .steps-fit) (r .3),
       )
 

@@ -5,19 +5,17 @@ use native.Mathlib.Numerals.{add-one}
 use native.Mathlib.Omega.{arith}
 use mathlib.Core.List.{List, _++_}
 use mathlib.Core.Path.{_≡_, refl}
-use lib.Dec.{lit≤}
 use lib.ListN.{drop, getD, length, length-append, length-set, set, take}
 use lib.Seq.{drop-cons, length-sets, length-take-le, sets, sets-eq, take-at, take-take}
 use Rattle.base_places.specs.Places.{normalWidth}
-use Rattle.text_fields.specs.Got.{Small, most}
-use Rattle.text_fields.specs.Letters.{counts}
-use Rattle.text_fields.specs.declared.Form.the-variants.{Decimal}
+use Rattle.text_fields.specs.Got.{Adds, Small, most}
+use Rattle.text_fields.specs.Letters.{adds, asked}
+use Rattle.text_fields.specs.declared.Cells.{Cells}
+use Rattle.text_fields.specs.declared.Form.the-variants.{Decimal, Hex}
 use Rattle.text_fields.specs.declared.Letter.{Letter}
-use Rattle.text_fields.specs.declared.Letter.the-variants.{Body, Contact, Normal, Tangent, Step, Other}
 use Rattle.text_fields.proofs.Small.{small-at}
-use Rattle.text_line.specs.Lines.{adds, put}
-use Rattle.text_line.specs.Filled.{Adds, Appended, Put, nightOf}
-use Rattle.text_line.specs.declared.Cells.{Cells}
+use Rattle.text_line.specs.Lines.{put}
+use Rattle.text_line.specs.Filled.{Appended, Put, nightOf}
 use Rattle.text_line.specs.declared.Place.{Place}
 use Rattle.text_line.specs.declared.State.{State}
 
@@ -61,16 +59,6 @@ module _ {t₀ t : List ℕ} {at i k : ℕ} {row : List ℕ} (v : Left t₀ t at
 pub sixteen : (row : List ℕ) (i : ℕ) → Small (most Decimal) row → getD row i 0 < 65536
 sixteen row i h = omega (arith, small-at 65535 row i h)
 
--- a letter adds no more than its line says
-pub said : (l : Letter) → (adds l .bodies ≤ counts l .floats) × (adds l .numbers ≤ counts l .decimals)
-    × (adds l .floats ≤ counts l .floats) × (adds l .steps ≤ counts l .decimals)
-said Body = (lit≤ tt, lit≤ tt, lit≤ tt, lit≤ tt)
-said Contact = (lit≤ tt, lit≤ tt, lit≤ tt, lit≤ tt)
-said Normal = (lit≤ tt, lit≤ tt, lit≤ tt, lit≤ tt)
-said Tangent = (lit≤ tt, lit≤ tt, lit≤ tt, lit≤ tt)
-said Step = (lit≤ tt, lit≤ tt, lit≤ tt, lit≤ tt)
-said Other = (lit≤ tt, lit≤ tt, lit≤ tt, lit≤ tt)
-
 -- a line's numbers at the ends of all tables
 pub put-all : (l : Letter) (place : Place) (st : State) (said bits bodies numbers floats steps : List ℕ)
     {b n f s : ℕ} {bodies′ numbers′ floats′ steps′ : List ℕ} {cells : Cells} → Adds l cells
@@ -79,15 +67,14 @@ pub put-all : (l : Letter) (place : Place) (st : State) (said bits bodies number
     → Put l place st said bits bodies numbers floats steps
     (record { place = place; bodies = b; numbers = n; floats = f; steps = s }) bodies′ numbers′ floats′ steps′
 unfolding nightOf put
-put-all l place st said′ bits bodies numbers floats steps a p q r t =
-    let k = said l in
+put-all l place st said bits bodies numbers floats steps a p q r t =
     record {
       is =
           rw (
-            take-take (adds l .bodies) (counts l .floats) bits (k .0),
-            take-take (adds l .numbers) (counts l .decimals) said′ (k .1),
-            take-take (adds l .floats) (counts l .floats) bits (k .2),
-            take-take (adds l .steps) (counts l .decimals) said′ (k .3),
+            take-take (adds l .bodies) (asked Hex l) bits (omega arith),
+            take-take (adds l .numbers) (asked Decimal l) said (omega arith),
+            take-take (adds l .floats) (asked Hex l) bits (omega arith),
+            take-take (adds l .steps) (asked Decimal l) said (omega arith),
             ← a .bodies,
             ← a .numbers,
             ← a .floats,

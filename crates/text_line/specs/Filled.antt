@@ -5,12 +5,12 @@ use mathlib.Core.Bool.{Bool, false}
 use mathlib.Core.List.{List, _++_}
 use mathlib.Core.Path.{_≡_}
 use lib.ListN.{length, take}
-use Rattle.base_places.specs.Places.{normalWidth}
-use Rattle.text_fields.specs.Letters.{counts, says}
+use Rattle.text_fields.specs.Letters.{adds, asked, says}
+use Rattle.text_fields.specs.declared.Cells.{Cells}
+use Rattle.text_fields.specs.declared.Form.the-variants.{Decimal, Hex}
 use Rattle.text_fields.specs.declared.Letter.{Letter}
 use Rattle.text_line.specs.Night.{Night}
-use Rattle.text_line.specs.Lines.{LineCame, adds, bad, filled, full, good, put, readLine}
-use Rattle.text_line.specs.declared.Cells.{Cells}
+use Rattle.text_line.specs.Lines.{LineCame, bad, filled, full, good, put, readLine}
 use Rattle.text_line.specs.declared.LineRead.{LineRead}
 use Rattle.text_line.specs.declared.LineRead.the-variants.{Good, Bad}
 use Rattle.text_line.specs.declared.Place.{Place}
@@ -55,14 +55,6 @@ pub record Appended (t : List ℕ) (at : ℕ) (row : List ℕ) (k : ℕ) (t′ :
   pub is : take r t′ ≡ take at t ++ take k row
   pub fits : r ≤ length t′
 
--- what a letter adds, none of it more than a row holds
-pub record Adds (l : Letter) (r : Cells) : Type 0 where
-  pub bodies : r .bodies ≡ adds l .bodies
-  pub numbers : r .numbers ≡ adds l .numbers
-  pub floats : r .floats ≡ adds l .floats
-  pub steps : r .steps ≡ adds l .steps
-  pub narrow : (r .bodies ≤ normalWidth) × (r .numbers ≤ normalWidth) × (r .floats ≤ normalWidth) × (r .steps ≤ normalWidth)
-
 -- every table has room for what a letter adds
 unfoldable pub HasRoom : Letter → State → List ℕ → List ℕ → List ℕ → List ℕ → Type 0
 HasRoom l st bodies numbers floats steps =
@@ -78,7 +70,7 @@ pub record Full (l : Letter) (st : State) (bodies numbers floats steps : List �
 pub record Put (l : Letter) (place : Place) (st : State) (said bits bodies numbers floats steps : List ℕ) (st′ : State)
     (bodies′ numbers′ floats′ steps′ : List ℕ) : Type 0 where
   pub is : nightOf st′ bodies′ numbers′ floats′ steps′
-      ≡ put l place (take (counts l .decimals) said) (take (counts l .floats) bits) (nightOf st bodies numbers floats steps)
+      ≡ put l place (take (asked Decimal l) said) (take (asked Hex l) bits) (nightOf st bodies numbers floats steps)
   pub sane : Sane st′ bodies′ numbers′ floats′ steps′
 
 -- a line came to what a definition says of it

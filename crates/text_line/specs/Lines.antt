@@ -7,13 +7,13 @@ use mathlib.Core.List.{List, _++_}
 use lib.Dec.{eqb, ltb}
 use lib.ListN.{length, take}
 use Rattle.base_words.specs.Choice.{if_then_else_}
-use Rattle.base_places.specs.Places.{bodyWidth, floatsWidth, headWidth, normalWidth, numbersWidth, stepWidth, tangentWidth}
+use Rattle.base_places.specs.Places.{floatsWidth}
 use Rattle.text_fields.specs.Fields.{Nothing, Says, Values}
-use Rattle.text_fields.specs.Letters.{lineLetter, says}
+use Rattle.text_fields.specs.Letters.{adds, lineLetter, says}
+use Rattle.text_fields.specs.declared.Cells.{Cells}
 use Rattle.text_fields.specs.declared.Letter.{Letter}
 use Rattle.text_fields.specs.declared.Letter.the-variants.{Body, Contact, Normal, Tangent, Step, Other}
 use Rattle.text_line.specs.Night.{Night}
-use Rattle.text_line.specs.declared.Cells.{Cells}
 use Rattle.text_line.specs.declared.Next.{Next}
 use Rattle.text_line.specs.declared.Next.the-variants.{To, OutOfOrder}
 use Rattle.text_line.specs.declared.Place.{Place}
@@ -53,15 +53,6 @@ inContact NormalB = true
 inContact TangentB = true
 inContact Contacts = false
 inContact Steps = false
-
--- how many numbers a line adds to each table
-abbrev pub adds : Letter → Cells
-adds Body = record { bodies = bodyWidth; numbers = 0; floats = 0; steps = 0 }
-adds Contact = record { bodies = 0; numbers = numbersWidth; floats = headWidth; steps = 0 }
-adds Normal = record { bodies = 0; numbers = 0; floats = normalWidth; steps = 0 }
-adds Tangent = record { bodies = 0; numbers = 0; floats = tangentWidth; steps = 0 }
-adds Step = record { bodies = 0; numbers = 0; floats = 0; steps = stepWidth }
-adds Other = record { bodies = 0; numbers = 0; floats = 0; steps = 0 }
 
 -- "table full": a table that holds so many numbers has no room for so many more
 unfoldable pub lacks : ℕ → ℕ → List ℕ → Bool

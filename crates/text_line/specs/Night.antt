@@ -2,7 +2,7 @@
 use Prim.Native.Nat.{ℕ, _*_}
 use mathlib.Core.List.{List, []}
 use Rattle.base_places.specs.Places.{bodyWidth, floatsWidth, numbersWidth, programBodies, programContacts, programSteps, stepWidth}
-use Rattle.text_line.specs.declared.Cells.{Cells}
+use Rattle.text_fields.specs.declared.Cells.{Cells}
 use Rattle.text_line.specs.declared.Place.{Place}
 use Rattle.text_line.specs.declared.Place.the-variants.{Bodies}
 

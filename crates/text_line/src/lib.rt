@@ -15,12 +15,12 @@ ghost use lib.Dec.{ltb};
 ghost use lib.ListN.{length};
 ghost use Rattle.base_places.specs.Places.{normalWidth};
 ghost use Rattle.text_fields.specs.Got.{Small, most};
+ghost use Rattle.text_fields.specs.Letters.{adds};
 ghost use Rattle.text_fields.specs.declared.Form.the-variants.{Decimal};
 ghost use Rattle.text_line.specs.Lines.{asksFloats, inContact, nextPlace, number};
-ghost use Rattle.text_line.specs.Lines.{adds as Lines·adds};
 ghost use Rattle.text_line.specs.Lines.{is as Lines·is};
 ghost use Rattle.text_line.specs.Lines.{on as Lines·on};
-ghost use Rattle.text_line.specs.Filled.{Adds, Appended, Full, HasRoom, Put, ReadLine, ReadOrdered, Sane};
+ghost use Rattle.text_line.specs.Filled.{Appended, Full, HasRoom, Put, ReadLine, ReadOrdered, Sane};
 
 // The place in the order of lines: among the bodies; in a contact, before its N, T, N or T; after a contact; among the
 // steps.
@@ -38,14 +38,6 @@ pub enum Place {
 pub enum Next {
     To(Place),
     OutOfOrder,
-}
-
-// So many numbers of each table.
-pub struct Cells {
-    pub bodies: usize,
-    pub numbers: usize,
-    pub floats: usize,
-    pub steps: usize,
 }
 
 // The place in the order of lines, and how many numbers of each table are filled.
@@ -125,30 +117,6 @@ pub fn in_contact(p: Place) -> bool
     }
 }
 
-// How many numbers a line adds to each table.
-fn adds(l: Letter) -> Cells
-    ensures { λ r. ⌜ Adds l r ⌝ }
-{
-    let mut cells = Cells {
-        bodies: 0,
-        numbers: 0,
-        floats: 0,
-        steps: 0,
-    };
-    match l {
-        Letter::Body => cells.bodies = BODY_WIDTH,
-        Letter::Contact => {
-            cells.numbers = NUMBERS_WIDTH;
-            cells.floats = HEAD_WIDTH;
-        }
-        Letter::Normal => cells.floats = NORMAL_WIDTH,
-        Letter::Tangent => cells.floats = TANGENT_WIDTH,
-        Letter::Step => cells.steps = STEP_WIDTH,
-        Letter::Other => {}
-    }
-    cells
-}
-
 // Whether a table of `size` numbers, of which `used` are filled, has no room for more.
 fn lacks(size: usize, used: usize, more: usize) -> bool
     requires { ⌜ used ≤ size ⌝ }
@@ -159,7 +127,7 @@ fn lacks(size: usize, used: usize, more: usize) -> bool
 
 // How many floats a line asks for: a contact's are asked for whole, at its C line.
 fn asks_floats(l: Letter, floats: usize) -> usize
-    requires { ⌜ floats ≡ Lines·adds l .floats ⌝ }
+    requires { ⌜ floats ≡ adds l .floats ⌝ }
     ensures { λ r. ⌜ r ≡ asksFloats l ⌝ }
 {
     if is(l, Letter::Contact) {
@@ -181,7 +149,7 @@ fn is_full(
     requires { ⌜ Sane st (now bodies) (now numbers) (now floats) (now steps) ⌝ }
     ensures { λ r. ⌜ Full l st (now (bodies .entry)) (now (numbers .entry)) (now (floats .entry)) (now (steps .entry)) r ⌝ }
 {
-    let cells = adds(l);
+    let cells = text_fields::adds(l);
     let no_bodies = lacks(bodies.len(), st.bodies, cells.bodies);
     let no_numbers = lacks(numbers.len(), st.numbers, cells.numbers);
     let no_floats = lacks(floats.len(), st.floats, asks_floats(l, cells.floats));
@@ -230,7 +198,7 @@ fn put_row(
         (now (bodies .entry)) (now (numbers .entry)) (now (floats .entry)) (now (steps .entry)) r
         (now (bodies .exit)) (now (numbers .exit)) (now (floats .exit)) (now (steps .exit)) ⌝ }
 {
-    let cells = adds(l);
+    let cells = text_fields::adds(l);
     let said = row.numbers;
     let bits = row.bits;
     State {

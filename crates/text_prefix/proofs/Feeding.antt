@@ -10,7 +10,7 @@ use lib.ListN.{length, length-append}
 use Rattle.base_places.specs.Places.{mostInLine}
 use Rattle.text_line.specs.Night.{Night, blank, ofProgram}
 use Rattle.text_line.specs.Lines.{LineCame, bad, good, readLine}
-use Rattle.text_line.specs.declared.Cells.{Cells}
+use Rattle.text_fields.specs.declared.Cells.{Cells}
 use Rattle.text_read.specs.Text.{Text, feed, feeds, lineEnded, reading, refused}
 use Rattle.text_prefix.proofs.Spent.{Spent, line-spent, nothing-spent}
 

@@ -13,7 +13,7 @@ use Rattle.text_digits.specs.declared.Number.{Number}
 use Rattle.text_digits.specs.declared.Number.the-variants.{Is, No}
 use Rattle.text_digits.proofs.Forms.{dec-short, hex-eight}
 use Rattle.text_fields.specs.Fields.{None, Says, Taken, These, ended, fields, inForm, onto, onward, takes, thenBits, values}
-use Rattle.text_fields.specs.Letters.{afterLetter, counts, letterIn, letterOf, lineLetter, says}
+use Rattle.text_fields.specs.Letters.{afterLetter, asked, letterIn, letterOf, lineLetter, says}
 use Rattle.text_fields.specs.declared.Form.{Form}
 use Rattle.text_fields.specs.declared.Form.the-variants.{Decimal, Hex}
 use Rattle.text_fields.specs.declared.Letter.{Letter}
@@ -120,16 +120,16 @@ size-letter (f ∷ fs) l q known = omega (arith, letter-by f l (eqb (length f) 1
 
 -- a line of a known letter, with its byte 10
 pub record GoodLine (l : Letter) (line numbers bits : List ℕ) : Type 0 where
-  pub counted : length numbers ≡ counts l .decimals
-  pub measured : length bits ≡ counts l .floats
-  pub bytes : suc (length line) ≤ lineBytes (counts l .decimals) (counts l .floats)
+  pub counted : length numbers ≡ asked Decimal l
+  pub measured : length bits ≡ asked Hex l
+  pub bytes : suc (length line) ≤ lineBytes (asked Decimal l) (asked Hex l)
 
 pub good-line : (line : List ℕ) (l : Letter) (numbers bits : List ℕ) → lineLetter line ≡ l → is l Other ≡ false
     → says l line ≡ Says numbers bits → GoodLine l line numbers bits
 unfolding lineLetter says
 good-line line l numbers bits q known e =
-    let t : Told (counts l .decimals) (counts l .floats) (afterLetter (fields line)) numbers bits =
-    told (counts l .decimals) (counts l .floats) (afterLetter (fields line)) numbers bits e in
+    let t : Told (asked Decimal l) (asked Hex l) (afterLetter (fields line)) numbers bits =
+    told (asked Decimal l) (asked Hex l) (afterLetter (fields line)) numbers bits e in
     record {
       counted = t .counted;
       measured = t .measured;

@@ -14,17 +14,17 @@ use Rattle.base_places.specs.Places.{programSteps, stepWidth, tangentWidth}
 use Rattle.base_words.proofs.Pick.{never}
 use Rattle.base_words.proofs.Said.{all-l, all-r}
 use Rattle.text_fields.specs.Fields.{Nothing, Says, Values}
-use Rattle.text_fields.specs.Letters.{counts, lineLetter, says}
+use Rattle.text_fields.specs.Letters.{adds, asked, lineLetter, says}
+use Rattle.text_fields.specs.declared.Form.the-variants.{Decimal, Hex}
 use Rattle.text_fields.specs.declared.Letter.{Letter}
 use Rattle.text_fields.specs.declared.Letter.the-variants.{Body, Contact, Normal, Tangent, Step, Other}
 use Rattle.text_line.specs.Night.{Night, blank, ofProgram}
-use Rattle.text_line.specs.Lines.{LineCame, adds, bad, filled, full, good, inContact, is, lacks, nextPlace, ordered, put, readLetter, readLine}
+use Rattle.text_line.specs.Lines.{LineCame, bad, filled, full, good, inContact, is, lacks, nextPlace, ordered, put, readLetter, readLine}
 use Rattle.text_line.specs.declared.Next.{Next}
 use Rattle.text_line.specs.declared.Next.the-variants.{To, OutOfOrder}
 use Rattle.text_line.specs.declared.Place.{Place}
 use Rattle.text_line.specs.declared.Place.the-variants.{Bodies, NormalA, TangentA, NormalB, TangentB, Contacts, Steps}
 use Rattle.text_line.proofs.Room.{roomy}
-use Rattle.text_line.proofs.Stored.{said}
 use Rattle.text_prefix.proofs.LineBytes.{GoodLine, good-line}
 
 -- so many lines B, C, N, T and S
@@ -108,7 +108,7 @@ record Row (l : Letter) : Type 0 where
   numbers : adds l .numbers ≡ one l .c * numbersWidth
   floats : adds l .floats ≡ floatsIn (one l)
   steps : adds l .steps ≡ one l .s * stepWidth
-  bytes : is l Other ≡ false → lineBytes (counts l .decimals) (counts l .floats) ≡ bytesIn (one l)
+  bytes : is l Other ≡ false → lineBytes (asked Decimal l) (asked Hex l) ≡ bytesIn (one l)
 
 row : (l : Letter) → Row l
 row Body = record { bodies = refl; numbers = refl; floats = refl; steps = refl; bytes = λ known. refl }
@@ -175,15 +175,14 @@ module _ (t : Night) (line numbers bits : List ℕ) (w : ℕ) (before : Spent t 
   unfolding put ofProgram
   spent-on l q known order room g =
       let r = row l in
-      let k = said l in
       let h = roomy ofProgram l t room in
       let f = left l (t .place) q order in
       record {
         read = plus (before .read) (one l);
-        bodies = longer (t .bodies) bits (adds l .bodies) (k .0) (g .measured) ∙ omega (arith, before .bodies, r .bodies);
-        numbers = longer (t .numbers) numbers (adds l .numbers) (k .1) (g .counted) ∙ omega (arith, before .numbers, r .numbers);
-        floats = longer (t .floats) bits (adds l .floats) (k .2) (g .measured) ∙ omega (arith, before .floats, r .floats);
-        steps = longer (t .steps) numbers (adds l .steps) (k .3) (g .counted) ∙ omega (arith, before .steps, r .steps);
+        bodies = longer (t .bodies) bits (adds l .bodies) (omega arith) (g .measured) ∙ omega (arith, before .bodies, r .bodies);
+        numbers = longer (t .numbers) numbers (adds l .numbers) (omega arith) (g .counted) ∙ omega (arith, before .numbers, r .numbers);
+        floats = longer (t .floats) bits (adds l .floats) (omega arith) (g .measured) ∙ omega (arith, before .floats, r .floats);
+        steps = longer (t .steps) numbers (adds l .steps) (omega arith) (g .counted) ∙ omega (arith, before .steps, r .steps);
         few = (
           omega (arith, before .bodies, r .bodies, has (programBodies * bodyWidth) (adds l .bodies) (t .bodies) (h .0)),
           omega (arith, before .numbers, r .numbers, has (programContacts * numbersWidth) (adds l .numbers) (t .numbers) (h .1)),

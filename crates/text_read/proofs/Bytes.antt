@@ -11,7 +11,7 @@ use Rattle.base_places.specs.Places.{mostInLine}
 use Rattle.text_line.specs.Night.{Night}
 use Rattle.text_line.specs.Lines.{LineCame, readLine}
 use Rattle.text_line.specs.Filled.{Came, ReadLine, Sane, cameOf, nightOf, roomOf}
-use Rattle.text_line.specs.declared.Cells.{Cells}
+use Rattle.text_fields.specs.declared.Cells.{Cells}
 use Rattle.text_line.specs.declared.State.{State}
 use Rattle.text_line.specs.declared.LineRead.{LineRead}
 use Rattle.text_line.specs.declared.LineRead.the-variants.{Good, Bad}

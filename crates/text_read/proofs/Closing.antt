@@ -13,7 +13,7 @@ use Rattle.base_words.proofs.Pick.{pass, take}
 use Rattle.text_line.specs.Night.{Night, blank}
 use Rattle.text_line.specs.Lines.{inContact, readLine}
 use Rattle.text_line.specs.Filled.{ReadLine, Sane, nightOf, roomOf}
-use Rattle.text_line.specs.declared.Cells.{Cells}
+use Rattle.text_fields.specs.declared.Cells.{Cells}
 use Rattle.text_line.specs.declared.Place.the-variants.{Bodies}
 use Rattle.text_line.specs.declared.State.{State}
 use Rattle.text_line.specs.declared.LineRead.{LineRead}

@@ -7,7 +7,7 @@ use Rattle.base_words.specs.Choice.{if_then_else_}
 use Rattle.base_places.specs.Places.{mostInLine}
 use Rattle.text_line.specs.Lines.{inContact}
 use Rattle.text_line.specs.Filled.{Sane, nightOf}
-use Rattle.text_line.specs.declared.Cells.{Cells}
+use Rattle.text_fields.specs.declared.Cells.{Cells}
 use Rattle.text_line.specs.declared.State.{State}
 use Rattle.text_read.specs.Text.{Text, feed, reading, refused}
 use Rattle.text_read.specs.declared.Cursor.{Cursor}

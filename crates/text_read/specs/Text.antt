@@ -8,7 +8,7 @@ use Rattle.base_words.specs.Choice.{if_then_else_}
 use Rattle.base_places.specs.Places.{mostInLine}
 use Rattle.text_line.specs.Night.{Night, blank}
 use Rattle.text_line.specs.Lines.{LineCame, bad, good, inContact, readLine}
-use Rattle.text_line.specs.declared.Cells.{Cells}
+use Rattle.text_fields.specs.declared.Cells.{Cells}
 
 -- the line so far, its number from 1, and what the lines before it said; or the first bad line and its reason
 pub data Text : Type 0 where

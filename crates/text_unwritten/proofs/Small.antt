@@ -10,13 +10,13 @@ use Rattle.text_digits.specs.declared.Number.{Number}
 use Rattle.text_digits.specs.declared.Number.the-variants.{Is, No}
 use Rattle.text_fields.specs.Fields.{None, Nothing, Says, Taken, These, Values, ended, fields, inForm, onward, takes, thenBits, values}
 use Rattle.text_fields.specs.Got as got
-use Rattle.text_fields.specs.Letters.{afterLetter, counts, lineLetter, says}
+use Rattle.text_fields.specs.Letters.{adds, afterLetter, asked, lineLetter, says}
 use Rattle.text_fields.specs.declared.Form.the-variants.{Decimal, Hex}
 use Rattle.text_fields.specs.declared.Letter.{Letter}
 use Rattle.text_fields.specs.declared.Letter.the-variants.{Other}
 use Rattle.text_fields.proofs.Small.{both-small, in-form-small, take-small}
 use Rattle.text_line.specs.Night.{Night, blank, ofProgram}
-use Rattle.text_line.specs.Lines.{LineCame, adds, bad, filled, full, good, inContact, is, nextPlace, ordered, put, readLetter, readLine}
+use Rattle.text_line.specs.Lines.{LineCame, bad, filled, full, good, inContact, is, nextPlace, ordered, put, readLetter, readLine}
 use Rattle.text_line.specs.declared.Next.{Next}
 use Rattle.text_line.specs.declared.Next.the-variants.{To, OutOfOrder}
 use Rattle.text_line.specs.declared.Place.{Place}
@@ -66,7 +66,7 @@ then-small k None = tt
 
 says-small : (l : Letter) (line : List ℕ) → SmallValues (says l line)
 unfolding says values
-says-small l line = then-small (counts l .floats) (takes Decimal [] (counts l .decimals) (afterLetter (fields line)))
+says-small l line = then-small (asked Hex l) (takes Decimal [] (asked Decimal l) (afterLetter (fields line)))
 
 -- what has been read with a line
 abbrev SmallCame : LineCame → Type 0

@@ -1,10 +1,10 @@
-use Rattle.text_fields.proofs.Rows.{few-decimals, few-floats, whole-row}
+use Rattle.text_fields.proofs.Rows.{whole-row}
 use borrow.Author.Needs.{needs}
 use Rattle.text_fields.proofs.read_row.Statement.{statement}
 use Rattle.text_fields.proofs.read_row.Tie as tie
 
-count-fields-requires : tie.Need-count-fields-requires
-count-fields-requires c κs = search needs
+adds-requires : tie.Need-adds-requires
+adds-requires c κs = search needs
 
 field-end-requires : tie.Need-field-end-requires
 field-end-requires c κs = search needs
@@ -12,11 +12,17 @@ field-end-requires c κs = search needs
 add-read-fields : tie.Need-add-read-fields
 add-read-fields c = search needs
 
+add-read-fields-2 : tie.Need-add-read-fields-2
+add-read-fields-2 c = search needs
+
 read-fields-requires : tie.Need-read-fields-requires
-read-fields-requires c κs = search few-decimals
+read-fields-requires c κs = search needs
+
+add-read-fields-3 : tie.Need-add-read-fields-3
+add-read-fields-3 c = search needs
 
 read-fields-requires-2 : tie.Need-read-fields-requires-2
-read-fields-requires-2 c κs = search few-floats
+read-fields-requires-2 c κs = search needs
 
 returns : tie.Need-returns
 returns c = search whole-row
@@ -25,9 +31,11 @@ pub read-row-spec : {M : Type 1} → statement M
 read-row-spec =
     tie.close
     (tie.spec
-    count-fields-requires
+    adds-requires
     field-end-requires
     add-read-fields
+    add-read-fields-2
     read-fields-requires
+    add-read-fields-3
     read-fields-requires-2
     returns)
