@@ -9,7 +9,7 @@ use lib.Dec.{ltb}
 use lib.ListN.{drop, getD, length, take}
 use lib.Seq.{length-take-le}
 use Rattle.base_words.specs.Choice.{if_then_else_}
-use Rattle.text_fields.specs.Fields.{Nothing, Says, Taken, ended, fields, fieldsFrom, takes, thenBits, untilTab, values}
+use Rattle.text_fields.specs.Fields.{Nothing, Says, ended, fields, fieldsFrom, takes, thenBits, untilTab, values}
 use Rattle.text_fields.specs.Got.{Adds, ReadFields, ReadRow, gotFrom, rowSays}
 use Rattle.text_fields.specs.Letters.{afterLetter, asked, letterIn, letterOf, lineLetter, says}
 use Rattle.text_fields.specs.declared.Cells.{Cells}
@@ -17,7 +17,6 @@ use Rattle.text_fields.specs.declared.Form.the-variants.{Decimal, Hex}
 use Rattle.text_fields.specs.declared.Got.{Got}
 use Rattle.text_fields.specs.declared.Letter.{Letter}
 use Rattle.text_fields.specs.declared.Letter.the-variants.{Other}
-use Rattle.text_fields.specs.declared.Row.{Row}
 use Rattle.text_fields.proofs.Until.{first, from-zero, past}
 
 -- the line's first field ends at `end`

@@ -1,10 +1,9 @@
 -- Lists of numbers none of which is larger than so much. Assumes nothing.
-use Prim.Native.Nat.{ℕ, zero, suc, _≤_, _<_}
-use native.Mathlib.Nat.{le-of-suc-le-suc}
+use Prim.Native.Nat.{ℕ, zero, suc, _≤_}
 use native.Mathlib.Omega.{arith}
 use mathlib.Core.List.{List, [], _∷_, _++_}
 use mathlib.Core.Path.{_≡_}
-use lib.ListN.{getD, length, set, take}
+use lib.ListN.{getD, set, take}
 use Rattle.text_digits.specs.declared.Number.the-variants.{Is}
 use Rattle.text_digits.proofs.Forms.{dec-small, hex-small}
 use Rattle.text_fields.specs.Fields.{inForm}

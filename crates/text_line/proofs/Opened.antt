@@ -2,7 +2,7 @@
 use Prim.Native.Nat.{ℕ}
 use mathlib.Core.Bool.{Bool, true, false, not}
 use mathlib.Core.List.{List}
-use mathlib.Core.Path.{_≡_, refl, sym, _∙_}
+use mathlib.Core.Path.{_≡_, refl}
 use Rattle.base_words.proofs.Said.{so, not-so}
 use Rattle.text_fields.specs.Got.{ReadRow, rowSays}
 use Rattle.text_fields.specs.Letters.{lineLetter}

@@ -6,8 +6,7 @@ use native.Mathlib.Omega.{arith}
 use mathlib.Core.List.{List, _++_}
 use mathlib.Core.Path.{_≡_, refl}
 use lib.ListN.{drop, getD, length, length-append, length-set, set, take}
-use lib.Seq.{drop-cons, length-sets, length-take-le, sets, sets-eq, take-at, take-take}
-use Rattle.base_places.specs.Places.{normalWidth}
+use lib.Seq.{drop-cons, length-take-le, sets, sets-eq, take-at, take-take}
 use Rattle.text_fields.specs.Got.{Adds, Small, most}
 use Rattle.text_fields.specs.Letters.{adds, asked}
 use Rattle.text_fields.specs.declared.Cells.{Cells}
