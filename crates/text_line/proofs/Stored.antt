@@ -14,7 +14,7 @@ use Rattle.text_fields.specs.declared.Form.the-variants.{Decimal, Hex}
 use Rattle.text_fields.specs.declared.Letter.{Letter}
 use Rattle.text_fields.proofs.Small.{small-at}
 use Rattle.text_line.specs.Lines.{put}
-use Rattle.text_line.specs.Filled.{Appended, Put, nightOf}
+use Rattle.text_line.specs.Filled.{Appended, Put, nightOf, roomOf}
 use Rattle.text_line.specs.declared.Place.{Place}
 use Rattle.text_line.specs.declared.State.{State}
 
@@ -52,6 +52,7 @@ module _ {t₀ t : List ℕ} {at i k : ℕ} {row : List ℕ} (v : Left t₀ t at
             rw (all, sets-eq (take k row) t₀ at (rw e room))
             (take-at (take at t₀ ++ take k row) rest (at + k) (rw (length-append, e, g)));
         fits = omega (arith, v .long);
+        long = v .long;
       }
 
 -- a decimal number fits in 16 bits
@@ -65,7 +66,7 @@ pub put-all : (l : Letter) (place : Place) (st : State) (said bits bodies number
     → Appended floats (st .floats) bits (cells .floats) floats′ f → Appended steps (st .steps) said (cells .steps) steps′ s
     → Put l place st said bits bodies numbers floats steps
     (record { place = place; bodies = b; numbers = n; floats = f; steps = s }) bodies′ numbers′ floats′ steps′
-unfolding nightOf put
+unfolding nightOf put roomOf
 put-all l place st said bits bodies numbers floats steps a p q r t =
     record {
       is =
@@ -84,4 +85,5 @@ put-all l place st said bits bodies numbers floats steps a p q r t =
             t .is,
           );
       sane = record { bodies-fit = p .fits; numbers-fit = q .fits; floats-fit = r .fits; steps-fit = t .fits };
+      kept = rw (p .long, q .long, r .long, t .long);
     }

@@ -54,6 +54,7 @@ SaneLine (Bad reason) bodies numbers floats steps = ℕ
 pub record Appended (t : List ℕ) (at : ℕ) (row : List ℕ) (k : ℕ) (t′ : List ℕ) (r : ℕ) : Type 0 where
   pub is : take r t′ ≡ take at t ++ take k row
   pub fits : r ≤ length t′
+  pub long : length t′ ≡ length t
 
 -- every table has room for what a letter adds
 unfoldable pub HasRoom : Letter → State → List ℕ → List ℕ → List ℕ → List ℕ → Type 0
@@ -72,19 +73,21 @@ pub record Put (l : Letter) (place : Place) (st : State) (said bits bodies numbe
   pub is : nightOf st′ bodies′ numbers′ floats′ steps′
       ≡ put l place (take (asked Decimal l) said) (take (asked Hex l) bits) (nightOf st bodies numbers floats steps)
   pub sane : Sane st′ bodies′ numbers′ floats′ steps′
+  pub kept : roomOf bodies′ numbers′ floats′ steps′ ≡ roomOf bodies numbers floats steps
 
 -- a line came to what a definition says of it
-pub record Came (x : LineCame) (r : LineRead) (bodies′ numbers′ floats′ steps′ : List ℕ) : Type 0 where
+pub record Came (room : Cells) (x : LineCame) (r : LineRead) (bodies′ numbers′ floats′ steps′ : List ℕ) : Type 0 where
   pub is : cameOf r bodies′ numbers′ floats′ steps′ ≡ x
   pub sane : SaneLine r bodies′ numbers′ floats′ steps′
+  pub kept : roomOf bodies′ numbers′ floats′ steps′ ≡ room
 
 -- a line in order was read
 abbrev pub ReadOrdered : Letter → Place → State → List ℕ → List ℕ → List ℕ → List ℕ → List ℕ
     → LineRead → List ℕ → List ℕ → List ℕ → List ℕ → Type 0
 ReadOrdered l place st line bodies numbers floats steps =
-    Came (filled (roomOf bodies numbers floats steps) l place (nightOf st bodies numbers floats steps) (says l line))
+    Came (roomOf bodies numbers floats steps) (filled (roomOf bodies numbers floats steps) l place (nightOf st bodies numbers floats steps) (says l line))
 
 -- a line was read
 abbrev pub ReadLine : State → List ℕ → List ℕ → List ℕ → List ℕ → List ℕ → LineRead → List ℕ → List ℕ → List ℕ → List ℕ → Type 0
 ReadLine st line bodies numbers floats steps =
-    Came (readLine (roomOf bodies numbers floats steps) (nightOf st bodies numbers floats steps) line)
+    Came (roomOf bodies numbers floats steps) (readLine (roomOf bodies numbers floats steps) (nightOf st bodies numbers floats steps) line)

@@ -11,7 +11,7 @@ use Rattle.base_places.specs.Places.{deciding, longestText, mostInLine}
 use Rattle.text_line.specs.Night.{Night, blank, ofProgram}
 use Rattle.text_line.specs.Lines.{LineCame, bad, good, inContact, readLine}
 use Rattle.text_read.specs.Text.{Text, closed, feeds, lineEnded, reading, refused, textOf, wholeContacts}
-use Rattle.text_read.proofs.Closing.{feeds-append, feeds-refused}
+use Rattle.text_read.proofs.Bytes.{feeds-append, feeds-refused}
 use Rattle.text_prefix.specs.Prefix.{LongestGood, PrefixDecides, TablesHold}
 use Rattle.text_prefix.proofs.Spent.{Spent, line-spent, none-left, normalsLeft, tangentsLeft}
 use Rattle.text_prefix.proofs.Feeding.{Read, Reading, fed-all, feeds-none}
