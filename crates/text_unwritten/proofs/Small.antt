@@ -9,7 +9,7 @@ use Rattle.base_places.specs.Places.{mostInLine}
 use Rattle.text_digits.specs.declared.Number.{Number}
 use Rattle.text_digits.specs.declared.Number.the-variants.{Is, No}
 use Rattle.text_fields.specs.Fields.{None, Nothing, Says, Taken, These, Values, ended, fields, inForm, onward, takes, thenBits, values}
-use Rattle.text_fields.specs.Got as got
+use Rattle.text_fields.specs.Got.{Small, most}
 use Rattle.text_fields.specs.Letters.{adds, afterLetter, asked, lineLetter, says}
 use Rattle.text_fields.specs.declared.Form.the-variants.{Decimal, Hex}
 use Rattle.text_fields.specs.declared.Letter.{Letter}
@@ -22,35 +22,28 @@ use Rattle.text_line.specs.declared.Next.the-variants.{To, OutOfOrder}
 use Rattle.text_line.specs.declared.Place.{Place}
 use Rattle.text_read.specs.Text.{Text, closed, feed, feeds, lineEnded, reading, refused, textOf, wholeContacts}
 
--- every number of a list fits
-abbrev bound : ℕ
-bound = got.most Hex
-
-abbrev pub Small : List ℕ → Type 0
-Small l = got.Small bound l
-
 -- the bits that fields say
 abbrev SmallTaken : Taken → Type 0
-SmallTaken (These l fs) = Small l
+SmallTaken (These l fs) = Small (most Hex) l
 SmallTaken None = Unit
 
-one-small : (f : List ℕ) (x : Number) → inForm Hex f ≡ x → (go-on : ℕ → Taken) → ((n : ℕ) → n ≤ bound → SmallTaken (go-on n))
+one-small : (f : List ℕ) (x : Number) → inForm Hex f ≡ x → (go-on : ℕ → Taken) → ((n : ℕ) → n ≤ most Hex → SmallTaken (go-on n))
     → SmallTaken (onward x go-on)
 unfolding onward
 one-small f (Is n) e go-on later = later n (in-form-small Hex f n e)
 one-small f No e go-on later = tt
 
-takes-small : (k : ℕ) (l : List ℕ) (fs : List (List ℕ)) → Small l → SmallTaken (takes Hex l k fs)
+takes-small : (k : ℕ) (l : List ℕ) (fs : List (List ℕ)) → Small (most Hex) l → SmallTaken (takes Hex l k fs)
 unfolding takes
 takes-small zero l fs h = h
 takes-small (suc k) l [] h = tt
 takes-small (suc k) l (f ∷ fs) h =
     one-small f (inForm Hex f) refl (λ n. takes Hex (l ++ (n ∷ [])) k fs)
-    (λ n i. takes-small k (l ++ (n ∷ [])) fs (both-small bound l (n ∷ []) h (i, tt)))
+    (λ n i. takes-small k (l ++ (n ∷ [])) fs (both-small (most Hex) l (n ∷ []) h (i, tt)))
 
 -- the bits that a line says
 abbrev SmallValues : Values → Type 0
-SmallValues (Says numbers bits) = Small bits
+SmallValues (Says numbers bits) = Small (most Hex) bits
 SmallValues Nothing = Unit
 
 ended-small : (numbers : List ℕ) (x : Taken) → SmallTaken x → SmallValues (ended numbers x)
@@ -70,7 +63,7 @@ says-small l line = then-small (asked Hex l) (takes Decimal [] (asked Decimal l)
 
 -- what has been read with a line
 abbrev SmallCame : LineCame → Type 0
-SmallCame (good t) = Small (t .bodies)
+SmallCame (good t) = Small (most Hex) (t .bodies)
 SmallCame (bad reason) = Unit
 
 -- a test may make the line bad
@@ -78,12 +71,12 @@ or-bad : (test : Bool) (reason : ℕ) (x : LineCame) → SmallCame x → SmallCa
 or-bad true reason x h = tt
 or-bad false reason x h = h
 
-module _ (t : Night) (before : Small (t .bodies)) where
+module _ (t : Night) (before : Small (most Hex) (t .bodies)) where
   filled-small : (l : Letter) (place : Place) (v : Values) → SmallValues v → SmallCame (filled ofProgram l place t v)
   unfolding filled put
   filled-small l place (Says numbers bits) h =
       or-bad (full ofProgram l t) 5 (good (put l place numbers bits t))
-      (both-small bound (t .bodies) (take (adds l .bodies) bits) before (take-small bound (adds l .bodies) bits h))
+      (both-small (most Hex) (t .bodies) (take (adds l .bodies) bits) before (take-small (most Hex) (adds l .bodies) bits h))
   filled-small l place Nothing h = tt
 
   ordered-small : (l : Letter) (next : Next) (v : Values) → SmallValues v → SmallCame (ordered ofProgram l next t v)
@@ -102,7 +95,7 @@ module _ (t : Night) (before : Small (t .bodies)) where
 
 -- what the lines of a text said
 abbrev SmallText : Text → Type 0
-SmallText (reading line n t) = Small (t .bodies)
+SmallText (reading line n t) = Small (most Hex) (t .bodies)
 SmallText (refused n reason) = Unit
 
 -- a test decides between two texts
@@ -148,5 +141,5 @@ unfolding textOf blank
 text-small s = closed-small (feeds ofProgram (reading [] 1 blank) s) (feeds-small s (reading [] 1 blank) tt)
 
 -- the bits of the bodies of a text that was read to its end
-pub bodies-small : (s line : List ℕ) (n : ℕ) (t : Night) → textOf ofProgram s ≡ reading line n t → Small (t .bodies)
+pub bodies-small : (s line : List ℕ) (n : ℕ) (t : Night) → textOf ofProgram s ≡ reading line n t → Small (most Hex) (t .bodies)
 bodies-small s line n t e = rw e at (text-small s)
