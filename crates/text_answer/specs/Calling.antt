@@ -7,11 +7,12 @@ use Rattle.list_rules.specs.Sweep.{tables}
 use Rattle.call_rules.specs.Call.{end}
 use Rattle.call.specs.declared.Report.{Report}
 use Rattle.text_line.specs.Night.{Night}
+use Rattle.text_line.specs.declared.Place.the-variants.{Bodies}
 use Rattle.text_output.specs.Answer.{called}
 
 -- what was read; the place in the order no longer matters
 abbrev pub night : List ℕ → List ℕ → List ℕ → List ℕ → Night
-night bodies numbers floats steps = record { place = 0; bodies = bodies; numbers = numbers; floats = floats; steps = steps }
+night bodies numbers floats steps = record { place = Bodies; bodies = bodies; numbers = numbers; floats = floats; steps = steps }
 
 -- what the call left in the program's floats and room, and its report, are what the definition says
 abbrev pub Called : Night → Report → List Float → List Float → List ℕ → Type 0

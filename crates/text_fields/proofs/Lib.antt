@@ -1,3 +1,4 @@
 pub mod Until
+pub mod Small
 pub mod Turn
 pub mod Rows

@@ -2,21 +2,21 @@
 use Prim.Native.Nat.{ℕ, _+_, _≤_, _<_}
 use native.Mathlib.Omega.{arith}
 use borrow.Author.Tests.{eq-eqb, ltb-false, ltb-true, ne-eqb}
-use mathlib.Core.Bool.{Bool, true, false, not, _&&_}
+use mathlib.Core.Bool.{Bool, true, false, _&&_}
 use mathlib.Core.List.{List, [], _∷_}
 use mathlib.Core.Path.{_≡_, refl, sym, _∙_}
 use lib.Dec.{ltb}
 use lib.ListN.{drop, getD, length, take}
 use lib.Seq.{length-take-le}
-use Rattle.base_words.proofs.Said.{so, not-so}
 use Rattle.base_words.specs.Choice.{if_then_else_}
-use Rattle.text_digits.specs.Digits.{decOf, hexOf}
-use Rattle.text_fields.specs.Fields.{Nothing, Says, These, ended, fields, fieldsFrom, takes, thenBits, untilTab, values}
-use Rattle.text_fields.specs.Got.{gotFrom}
-use Rattle.text_fields.specs.Letters.{afterLetter, decimals, floats, letterIn, letterOf, lineLetter, rowSays, says}
+use Rattle.text_fields.specs.Fields.{Nothing, Says, ended, fields, fieldsFrom, takes, thenBits, untilTab, values}
+use Rattle.text_fields.specs.Got.{Adds, ReadFields, ReadRow, gotFrom, rowSays}
+use Rattle.text_fields.specs.Letters.{afterLetter, asked, letterIn, letterOf, lineLetter, says}
+use Rattle.text_fields.specs.declared.Cells.{Cells}
+use Rattle.text_fields.specs.declared.Form.the-variants.{Decimal, Hex}
+use Rattle.text_fields.specs.declared.Got.{Got}
 use Rattle.text_fields.specs.declared.Letter.{Letter}
-use Rattle.text_fields.specs.declared.Letter.the-variants.{Body, Contact, Normal, Tangent, Step, Other}
-use Rattle.text_fields.specs.declared.Row.{Row}
+use Rattle.text_fields.specs.declared.Letter.the-variants.{Other}
 use Rattle.text_fields.proofs.Until.{first, from-zero, past}
 
 -- the line's first field ends at `end`
@@ -48,44 +48,31 @@ module _ (s : List ℕ) (end : ℕ) (at-end : end ≡ 0 + untilTab (drop 0 s)) w
       let other : length (take end s) ≡ 1 → ⊥ = λ e. p (sym (length-take-le end s h) ∙ e) in
       rw (parted, ne-eqb _ _ other)
 
-  module _ (l : Letter) (d : ℕ) (asked : d ≡ decimals l) (good : Bool) (next : ℕ) (got : List ℕ)
-      (numbers : gotFrom good next got d s ≡ takes decOf [] d (fieldsFrom s (end + 1))) where
-    pub bad-numbers : (r : Row) → not good ≡ true → r .good ≡ false → rowSays l r ≡ says l s
-    unfolding rowSays says values thenBits gotFrom
-    bad-numbers r e e′ = rw (e′, after, ← asked, ← numbers, not-so good e)
+  -- what the fields after it say: d decimal numbers, then k floats
+  module _ {d k : ℕ} {one two : Got} (numbers : ReadFields Decimal s (end + 1) d one) (bits : ReadFields Hex s (one .next) k two) where
+    -- by whether all were good, and a field is left over
+    ends : (good good2 over : Bool) → ltb (length s) (two .next) ≡ over
+        → gotFrom good2 (two .next) (two .values) k s ≡ takes Hex [] k (fieldsFrom s (one .next))
+        → (if good && good2 && over then Says (take d (one .values)) (take k (two .values)) else Nothing)
+        ≡ thenBits k (gotFrom good (one .next) (one .values) d s)
+    unfolding thenBits gotFrom ended
+    ends false good2 over e t = refl
+    ends true false over e t = rw (← t)
+    ends true true true e t = rw (← t, past s (two .next) (ltb-true _ _ e))
+    ends true true false e t = rw (← t, first s (two .next) (ltb-false _ _ e))
 
-    had : not good ≡ false → These (take d got) (fieldsFrom s next) ≡ takes decOf [] d (fieldsFrom s (end + 1))
-    unfolding gotFrom
-    had e = rw (so good e) at numbers
+    said : (l : Letter) → d ≡ asked Decimal l → k ≡ asked Hex l
+        → ReadRow l s (record { good = one .good && two .good && ltb (length s) (two .next); numbers = one .values; bits = two .values })
+    unfolding rowSays says values
+    said l p q = record {
+      is =
+          rw (after, ← p, ← q, ← numbers .is)
+          (ends (one .good) (two .good) (ltb (length s) (two .next)) refl (bits .is));
+      small = numbers .small;
+    }
 
-    -- the rest of the line, by whether the floats were good and a field is left over
-    ends : (k : ℕ) (good2 over : Bool) (next2 : ℕ) (got2 : List ℕ) → ltb (length s) next2 ≡ over
-        → (if good2 && over then Says (take d got) (take k got2) else Nothing) ≡ ended (take d got) (gotFrom good2 next2 got2 k s)
-    unfolding gotFrom ended
-    ends k false over next2 got2 e = refl
-    ends k true true next2 got2 e = rw (past s next2 (ltb-true _ _ e)) refl
-    ends k true false next2 got2 e = rw (first s next2 (ltb-false _ _ e)) refl
-
-    pub whole-row : (k : ℕ) → k ≡ floats l → (good2 : Bool) (next2 : ℕ) (got2 : List ℕ) (r : Row) → not good ≡ false
-        → gotFrom good2 next2 got2 k s ≡ takes hexOf [] k (fieldsFrom s next)
-        → r .good ≡ (good2 && ltb (length s) next2) → r .numbers ≡ got → r .bits ≡ got2 → rowSays l r ≡ says l s
-    unfolding rowSays says values thenBits
-    whole-row k asked2 good2 next2 got2 r e bits g n b =
-        rw (g, n, b, after, ← asked, ← asked2, ← had e, ← bits) (ends k good2 (ltb (length s) next2) next2 got2 refl)
-
--- a letter asks for no more than a row has
-pub few-numbers : (l : Letter) {n : ℕ} → n ≡ decimals l → n ≤ 3
-few-numbers Body e = omega arith
-few-numbers Contact e = omega arith
-few-numbers Normal e = omega arith
-few-numbers Tangent e = omega arith
-few-numbers Step e = omega arith
-few-numbers Other e = omega arith
-
-pub few-bits : (l : Letter) {n : ℕ} → n ≡ floats l → n ≤ 10
-few-bits Body e = omega arith
-few-bits Contact e = omega arith
-few-bits Normal e = omega arith
-few-bits Tangent e = omega arith
-few-bits Step e = omega arith
-few-bits Other e = omega arith
+  pub whole-row : (l : Letter) {cells : Cells} {one two : Got} → Adds l cells
+      → ReadFields Decimal s (end + 1) (cells .numbers + cells .steps) one
+      → ReadFields Hex s (one .next) (cells .bodies + cells .floats) two
+      → ReadRow l s (record { good = one .good && two .good && ltb (length s) (two .next); numbers = one .values; bits = two .values })
+  whole-row l a numbers bits = said numbers bits l (rw (a .numbers, a .steps)) (rw (a .bodies, a .floats))

@@ -1,77 +1,92 @@
--- One field more: what is left to read comes to the same from where the turn leaves off. For fields of any form. Assumes nothing.
+-- One field read, and one field more: what is left to read comes to the same from where the turn leaves off. For fields of either form.
+-- Assumes nothing.
 use Prim.Native.Nat.{ℕ, suc, _+_, _-_, _≤_, _<_}
 use native.Mathlib.Nat.{add-sub-cancel-left, sub-zero}
 use native.Mathlib.Numerals.{add-one}
 use native.Mathlib.Omega.{arith}
 use mathlib.Core.Bool.{true, false}
-use mathlib.Core.List.{List, [], _∷_, _++_}
-use mathlib.Core.Path.{_≡_, refl, sym, ap, _∙_}
-use lib.ListN.{drop, length, set, take}
+use mathlib.Core.List.{List, [], _∷_}
+use mathlib.Core.Path.{_≡_, sym, ap, _∙_}
+use lib.ListN.{drop, length, length-set, set, take}
 use lib.Seq.{take-suc-set}
-use Rattle.text_digits.specs.Digits.{decOf}
-use Rattle.text_digits.proofs.Forms.{dec-small}
+use Rattle.base_places.specs.Places.{normalWidth}
 use Rattle.text_digits.specs.declared.Number.{Number}
 use Rattle.text_digits.specs.declared.Number.the-variants.{Is, No}
-use Rattle.text_fields.specs.Fields.{None, Taken, These, fieldsFrom, onward, takes, untilTab}
-use Rattle.text_fields.specs.Got.{gotFrom}
+use Rattle.text_fields.specs.Fields.{These, fieldsFrom, inForm, onward, takes, untilTab}
+use Rattle.text_fields.specs.Got.{ReadField, ReadFields, Small, gotFrom, most}
+use Rattle.text_fields.specs.declared.Field.{Field}
+use Rattle.text_fields.specs.declared.Field.the-variants.{Holds, Bad}
+use Rattle.text_fields.specs.declared.Form.{Form}
+use Rattle.text_fields.proofs.Small.{in-form-small, set-small}
 use Rattle.text_fields.proofs.Until.{first, past}
 
-module _ (form : List ℕ → Number) where
-  module _ (got : List ℕ) (k : ℕ) (f : List ℕ) (fs : List (List ℕ)) where
-    takes-is : {x : ℕ} → form f ≡ Is x → takes form got (suc k) (f ∷ fs) ≡ takes form (got ++ (x ∷ [])) k fs
-    unfolding takes onward
-    takes-is e = rw e
+bad-holds : {A : Type 0} (x next : ℕ) → Bad ≡ Holds x next → A
+bad-holds x next e = absurd (let z : _≡_ {A = ℕ} 0 1 = cc in omega arith)
 
-    takes-no : form f ≡ No → takes form got (suc k) (f ∷ fs) ≡ None
-    unfolding takes onward
-    takes-no e = rw e
-
-  takes-short : (got : List ℕ) (k : ℕ) → takes form got (suc k) [] ≡ None
+-- one field
+module _ (form : Form) (s : List ℕ) (at : ℕ) where
+  pub no-field : length s < at → ReadField form s at Bad
   unfolding takes
-  takes-short got k = refl
+  no-field h = record {
+    more = λ got k x next e. bad-holds x next e;
+    none = λ got k e. rw (past s at h);
+    small = λ x next e. bad-holds x next e;
+  }
 
-  takes-end : (got : List ℕ) (fs : List (List ℕ)) → takes form got 0 fs ≡ These got fs
-  unfolding takes
-  takes-end got fs = refl
-
--- after i of n fields in a form, what is left from byte `at` on comes to r
-pub record Left (form : List ℕ → Number) (n i : ℕ) (nums s : List ℕ) (at : ℕ) (r : Taken) : Type 0 where
-  pub same : takes form (take i nums) (n - i) (fieldsFrom s at) ≡ r
-
-pub begin : (form : List ℕ → Number) (n : ℕ) (nums s : List ℕ) (at : ℕ) → Left form n 0 nums s at (takes form [] n (fieldsFrom s at))
-begin form n nums s at = record { same = rw sub-zero }
-
-module _ {form : List ℕ → Number} {n i : ℕ} {nums s : List ℕ} {at : ℕ} {r : Taken} (v : Left form n i nums s at r) where
-  pub too-few : i < n → length s < at → gotFrom false at nums n s ≡ r
-  unfolding gotFrom
-  too-few h p =
-      let e : n - i ≡ suc (n - (i + 1)) = omega arith in
-      rw (past s at p, e, takes-short) at (v .same)
-
-  module _ (h : i < n) (p : at ≤ length s) (end : ℕ) (at-end : end ≡ at + untilTab (drop at s)) where
+  module _ (h : at ≤ length s) (end : ℕ) (at-end : end ≡ at + untilTab (drop at s)) {v : Number}
+      (said : v ≡ inForm form (take (end - at) (drop at s))) where
     split : fieldsFrom s at ≡ take (end - at) (drop at s) ∷ fieldsFrom s (end + 1)
-    split = rw (at-end, add-sub-cancel-left) (first s at p)
+    split = rw (at-end, add-sub-cancel-left) (first s at h)
 
+    pub holds : (x : ℕ) → v ≡ Is x → ReadField form s at (Holds x (end + 1))
+    unfolding takes onward
+    holds x e = record {
+      more = λ got k x′ next q. let p : x ≡ x′ = cc in let p′ : end + 1 ≡ next = cc in rw (split, ← said, e, p, p′);
+      none = λ got k q. bad-holds x (end + 1) (sym q);
+      small = λ x′ next q. let p : x ≡ x′ = cc in rw (← p) (in-form-small form (take (end - at) (drop at s)) x (sym said ∙ e));
+    }
+
+    pub no-number : v ≡ No → ReadField form s at Bad
+    unfolding takes onward
+    no-number e = record {
+      more = λ got k x next q. bad-holds x next q;
+      none = λ got k q. rw (split, ← said, e);
+      small = λ x next q. bad-holds x next q;
+    }
+
+-- after i of n fields in a form, what is left from byte `at` on comes to the same as all from byte `from` on
+pub record Left (form : Form) (n i : ℕ) (values s : List ℕ) (at from : ℕ) : Type 0 where
+  pub same : takes form (take i values) (n - i) (fieldsFrom s at) ≡ takes form [] n (fieldsFrom s from)
+  pub small : Small (most form) values
+  pub long : length values ≡ normalWidth
+  pub few : i ≤ n
+
+pub begin : (form : Form) (n : ℕ) (values s : List ℕ) (at : ℕ) → Small (most form) values → length values ≡ normalWidth
+    → Left form n 0 values s at at
+begin form n values s at h e = record { same = rw sub-zero; small = h; long = e; few = omega arith }
+
+module _ {form : Form} {n i : ℕ} {values s : List ℕ} {at from : ℕ} (v : Left form n i values s at from) where
+  module _ (h : i < n) {r : Field} (d : ReadField form s at r) where
     left : n - i ≡ suc (n - (i + 1))
     left = omega arith
 
-    pub turn : i < length nums → {v′ : Number} {x : ℕ} → v′ ≡ form (take (end - at) (drop at s)) → v′ ≡ Is x
-        → Left form n (i + 1) (set nums i x) s (end + 1) r
-    turn room {v′} {x} e e′ =
-        let on = rw (split, left, takes-is form (take i nums) _ _ _ (sym e ∙ e′), add-one) at (v .same) in
-        record { same = rw (add-one, take-suc-set nums i x room) on }
+    pub turn : n ≤ normalWidth → (x next : ℕ) → r ≡ Holds x next → Left form n (i + 1) (set values i x) s next from
+    turn p x next e =
+        let on = rw (left, d .more (take i values) (n - (i + 1)) x next e) at (v .same) in
+        record {
+          same = rw (add-one, take-suc-set values i x (omega arith)) (rw add-one at on);
+          small = set-small (most form) values i x (v .small) (d .small x next e);
+          long = rw (length-set) (v .long);
+          few = omega arith;
+        }
 
-    pub bad : {v′ : Number} → v′ ≡ form (take (end - at) (drop at s)) → v′ ≡ No → gotFrom false at nums n s ≡ r
+    pub stop : r ≡ Bad → ReadFields form s from n (record { good = false; next = at; values = values })
     unfolding gotFrom
-    bad e e′ = rw (split, left, takes-no form (take i nums) _ _ _ (sym e ∙ e′)) at (v .same)
+    stop e = record { is = rw (left, d .none (take i values) (n - (i + 1)) e) at (v .same); small = v .small }
 
-  pub all-got : i ≤ n → n ≤ i → gotFrom true at nums n s ≡ r
-  unfolding gotFrom
-  all-got q h =
-      let e : n - i ≡ 0 = omega arith in
-      let e′ : i ≡ n = omega arith in
-      ap (λ (k : ℕ). These (take k nums) (fieldsFrom s at)) (sym e′) ∙ rw (e, takes-end) at (v .same)
-
--- a decimal field's number fits in 16 bits
-pub fits-sixteen : {v : Number} {x : ℕ} (f : List ℕ) → v ≡ decOf f → v ≡ Is x → x < 65536
-fits-sixteen {v} {x} f e e′ = omega (arith, dec-small f x (sym e ∙ e′))
+  pub all-got : n ≤ i → ReadFields form s from n (record { good = true; next = at; values = values })
+  unfolding gotFrom takes
+  all-got h =
+      let e : n - i ≡ 0 = omega (arith, v .few) in
+      let e′ : i ≡ n = omega (arith, v .few) in
+      record { is = ap (λ (k : ℕ). These (take k values) (fieldsFrom s at)) (sym e′) ∙ rw e at (v .same); small = v .small }

@@ -7,6 +7,8 @@ use Rattle.base_words.specs.Choice.{if_then_else_}
 use Rattle.text_digits.specs.Digits.{decOf, hexOf}
 use Rattle.text_digits.specs.declared.Number.{Number}
 use Rattle.text_digits.specs.declared.Number.the-variants.{Is, No}
+use Rattle.text_fields.specs.declared.Form.{Form}
+use Rattle.text_fields.specs.declared.Form.the-variants.{Decimal, Hex}
 
 -- a byte before the first of the fields
 unfoldable pub onto : ℕ → List (List ℕ) → List (List ℕ)
@@ -27,6 +29,11 @@ untilTab (b ∷ s) = if eqb b 9 then 0 else suc (untilTab s)
 unfoldable pub fieldsFrom : List ℕ → ℕ → List (List ℕ)
 fieldsFrom s at = if leb at (length s) then fields (drop at s) else []
 
+-- "floats are the bits as eight lower-case hex digits; other numbers are decimal"
+abbrev pub inForm : Form → List ℕ → Number
+inForm Decimal f = decOf f
+inForm Hex f = hexOf f
+
 -- numbers that fields say, and the fields after them; or none, where one is not in its form or missing
 pub data Taken : Type 0 where
   These : List ℕ → List (List ℕ) → Taken
@@ -37,10 +44,10 @@ onward (Is n) go-on = go-on n
 onward No go-on = None
 
 -- k fields in one form, after the numbers that were got before them
-unfoldable pub takes : (List ℕ → Number) → List ℕ → ℕ → List (List ℕ) → Taken
+unfoldable pub takes : Form → List ℕ → ℕ → List (List ℕ) → Taken
 takes form got zero fs = These got fs
 takes form got (suc k) [] = None
-takes form got (suc k) (f ∷ fs) = onward (form f) (λ n. takes form (got ++ (n ∷ [])) k fs)
+takes form got (suc k) (f ∷ fs) = onward (inForm form f) (λ n. takes form (got ++ (n ∷ [])) k fs)
 
 -- what a whole line says after its letter: decimal numbers, and floats' bits; or nothing, where its fields are not of its letter's
 -- number or form
@@ -55,9 +62,9 @@ ended numbers (These bits (f ∷ fs)) = Nothing
 ended numbers None = Nothing
 
 unfoldable pub thenBits : ℕ → Taken → Values
-thenBits k (These numbers fs) = ended numbers (takes hexOf [] k fs)
+thenBits k (These numbers fs) = ended numbers (takes Hex [] k fs)
 thenBits k None = Nothing
 
 -- d decimal numbers, then k floats, "field count or field form"
 unfoldable pub values : ℕ → ℕ → List (List ℕ) → Values
-values d k fs = thenBits k (takes decOf [] d fs)
+values d k fs = thenBits k (takes Decimal [] d fs)

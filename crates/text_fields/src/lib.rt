@@ -1,13 +1,18 @@
 // Fields of a line: its letter, and what the fields after the letter say.
+use base_places::BODY_WIDTH;
+use base_places::HEAD_WIDTH;
+use base_places::NORMAL_WIDTH;
+use base_places::NUMBERS_WIDTH;
+use base_places::STEP_WIDTH;
+use base_places::TANGENT_WIDTH;
 use text_digits::Number;
 ghost use mathlib.Core.Path.{_≡_};
-ghost use mathlib.Core.List.{[]};
 ghost use Prim.Native.Nat.{_+_, _≤_};
 ghost use lib.ListN.{length, drop};
-ghost use Rattle.text_digits.specs.Digits.{decOf, hexOf};
-ghost use Rattle.text_fields.specs.Fields.{fieldsFrom, takes, untilTab};
-ghost use Rattle.text_fields.specs.Letters.{decimals, floats, letterOf, lineLetter, rowSays, says};
-ghost use Rattle.text_fields.specs.Got.{numbersGot, bitsGot};
+ghost use Rattle.base_places.specs.Places.{normalWidth};
+ghost use Rattle.text_fields.specs.Fields.{inForm, untilTab};
+ghost use Rattle.text_fields.specs.Letters.{letterOf, lineLetter};
+ghost use Rattle.text_fields.specs.Got.{Adds, ReadField, ReadFields, ReadRow};
 
 pub enum Letter {
     Body,
@@ -18,25 +23,39 @@ pub enum Letter {
     Other,
 }
 
+// How a number is written: decimal, or as eight hex digits.
+pub enum Form {
+    Decimal,
+    Hex,
+}
+
+// So many numbers of each table: bodies' floats, contacts' numbers and floats, steps' numbers.
+pub struct Cells {
+    pub bodies: usize,
+    pub numbers: usize,
+    pub floats: usize,
+    pub steps: usize,
+}
+
+// What a field says, and the byte after the tab that ends it.
+pub enum Field {
+    Holds(u32, usize),
+    Bad,
+}
+
+// What several fields say, from the front, and the byte after the tab that ends them. None has more of one form than an
+// N line.
+pub struct Got {
+    pub good: bool,
+    pub next: usize,
+    pub values: [u32; NORMAL_WIDTH],
+}
+
 // What a line says after its letter, from the front; nothing, where it is not good.
 pub struct Row {
     pub good: bool,
-    pub numbers: [u16; 3],
-    pub bits: [u32; 10],
-}
-
-// Decimal numbers read from the front, and the byte after the tab that ends them.
-struct Numbers {
-    good: bool,
-    next: usize,
-    got: [u16; 3],
-}
-
-// Patterns of floats, likewise.
-struct Bits {
-    good: bool,
-    next: usize,
-    got: [u32; 10],
+    pub numbers: [u32; NORMAL_WIDTH],
+    pub bits: [u32; NORMAL_WIDTH],
 }
 
 fn letter_of(b: u8) -> Letter
@@ -79,131 +98,99 @@ pub fn line_letter(line: &[u8]) -> Letter
     }
 }
 
-fn count_numbers(l: Letter) -> usize
-    ensures { λ r. ⌜ r ≡ decimals l ⌝ }
+// How many numbers a line adds to each table.
+pub fn adds(l: Letter) -> Cells
+    ensures { λ r. ⌜ Adds l r ⌝ }
 {
+    let mut cells = Cells {
+        bodies: 0,
+        numbers: 0,
+        floats: 0,
+        steps: 0,
+    };
     match l {
-        Letter::Body => 0,
-        Letter::Contact => 3,
-        Letter::Normal => 0,
-        Letter::Tangent => 0,
-        Letter::Step => 2,
-        Letter::Other => 0,
+        Letter::Body => cells.bodies = BODY_WIDTH,
+        Letter::Contact => {
+            cells.numbers = NUMBERS_WIDTH;
+            cells.floats = HEAD_WIDTH;
+        }
+        Letter::Normal => cells.floats = NORMAL_WIDTH,
+        Letter::Tangent => cells.floats = TANGENT_WIDTH,
+        Letter::Step => cells.steps = STEP_WIDTH,
+        Letter::Other => {}
+    }
+    cells
+}
+
+fn number(form: Form, s: &[u8]) -> Number
+    ensures { λ r. ⌜ r ≡ inForm form (now (s .entry)) ⌝ }
+{
+    match form {
+        Form::Decimal => text_digits::dec(s),
+        Form::Hex => text_digits::hex(s),
     }
 }
 
-fn count_bits(l: Letter) -> usize
-    ensures { λ r. ⌜ r ≡ floats l ⌝ }
+// The field that starts at byte `at`.
+fn read_field(form: Form, s: &[u8], at: usize) -> Field
+    ensures { λ r. ⌜ ReadField form (now (s .entry)) at r ⌝ }
 {
-    match l {
-        Letter::Body => 3,
-        Letter::Contact => 9,
-        Letter::Normal => 10,
-        Letter::Tangent => 8,
-        Letter::Step => 0,
-        Letter::Other => 0,
+    if s.len() < at {
+        return Field::Bad;
+    }
+    let end = field_end(s, at);
+    let v = number(form, &s[at..end]);
+    match v {
+        Number::Is(x) => Field::Holds(x, end + 1),
+        Number::No => Field::Bad,
     }
 }
 
-// n decimal numbers from byte `from` on.
-fn read_numbers(s: &[u8], from: usize, n: usize) -> Numbers
-    requires { ⌜ n ≤ 3 ⌝ }
-    ensures { λ r. ⌜ numbersGot r n (now (s .entry)) ≡ takes decOf [] n (fieldsFrom (now (s .entry)) from) ⌝ }
+// n fields from byte `from` on.
+fn read_fields(form: Form, s: &[u8], from: usize, n: usize) -> Got
+    requires { ⌜ n ≤ normalWidth ⌝ }
+    ensures { λ r. ⌜ ReadFields form (now (s .entry)) from n r ⌝ }
 {
-    let mut got = [0u16; 3];
+    let mut values = [0u32; NORMAL_WIDTH];
     let mut at = from;
     let mut i = 0;
     while i < n {
-        if s.len() < at {
-            return Numbers {
-                good: false,
-                next: at,
-                got,
-            };
-        }
-        let end = field_end(s, at);
-        let v = text_digits::dec(&s[at..end]);
-        match v {
-            Number::Is(x) => {
-                got[i] = x as u16;
+        let field = read_field(form, s, at);
+        match field {
+            Field::Holds(x, next) => {
+                values[i] = x;
+                at = next;
             }
-            Number::No => {
-                return Numbers {
+            Field::Bad => {
+                return Got {
                     good: false,
                     next: at,
-                    got,
+                    values,
                 };
             }
         }
-        at = end + 1;
         i += 1;
     }
-    Numbers {
+    Got {
         good: true,
         next: at,
-        got,
-    }
-}
-
-// n patterns from byte `from` on.
-fn read_bits(s: &[u8], from: usize, n: usize) -> Bits
-    requires { ⌜ n ≤ 10 ⌝ }
-    ensures { λ r. ⌜ bitsGot r n (now (s .entry)) ≡ takes hexOf [] n (fieldsFrom (now (s .entry)) from) ⌝ }
-{
-    let mut got = [0u32; 10];
-    let mut at = from;
-    let mut i = 0;
-    while i < n {
-        if s.len() < at {
-            return Bits {
-                good: false,
-                next: at,
-                got,
-            };
-        }
-        let end = field_end(s, at);
-        let v = text_digits::hex(&s[at..end]);
-        match v {
-            Number::Is(x) => {
-                got[i] = x;
-            }
-            Number::No => {
-                return Bits {
-                    good: false,
-                    next: at,
-                    got,
-                };
-            }
-        }
-        at = end + 1;
-        i += 1;
-    }
-    Bits {
-        good: true,
-        next: at,
-        got,
+        values,
     }
 }
 
 // What a line of a letter says.
 pub fn read_row(l: Letter, line: &[u8]) -> Row
-    ensures { λ r. ⌜ rowSays l r ≡ says l (now (line .entry)) ⌝ }
+    ensures { λ r. ⌜ ReadRow l (now (line .entry)) r ⌝ }
 {
+    let cells = adds(l);
     let end = field_end(line, 0);
-    let first = read_numbers(line, end + 1, count_numbers(l));
-    let numbers = first.got;
-    if !first.good {
-        return Row {
-            good: false,
-            numbers,
-            bits: [0; 10],
-        };
-    }
-    let second = read_bits(line, first.next, count_bits(l));
-    let bits = second.got;
+    let first = read_fields(Form::Decimal, line, end + 1, cells.numbers + cells.steps);
+    let second = read_fields(Form::Hex, line, first.next, cells.bodies + cells.floats);
+    let numbers = first.values;
+    let bits = second.values;
     let next = second.next;
     Row {
-        good: second.good & (line.len() < next),
+        good: first.good & second.good & (line.len() < next),
         numbers,
         bits,
     }

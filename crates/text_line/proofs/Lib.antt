@@ -1,5 +1,4 @@
-pub mod Stored
-pub mod Room
 pub mod Order
-pub mod Puts
+pub mod Room
+pub mod Stored
 pub mod Opened

@@ -1,18 +1,22 @@
--- Whether a table has room: by how far it is filled, as the program counts it. Assumes nothing.
+-- Whether the tables have room: by how far they are filled, as the program counts it. Assumes nothing.
 use Prim.Native.Nat.{ℕ, _+_, _-_, _≤_}
 use native.Mathlib.Omega.{arith}
 use borrow.Author.Tests.{le-ltb, lt-ltb, ltb-false, ltb-true}
 use mathlib.Core.Bool.{Bool, true, false, _||_}
 use mathlib.Core.List.{List}
 use mathlib.Core.Path.{_≡_, refl, sym, _∙_}
-use lib.Dec.{ltb}
+use lib.Dec.{lit≤, ltb}
 use lib.ListN.{length, take}
 use lib.Seq.{length-take-le}
+use Rattle.base_words.proofs.Said.{none-l, none-r}
+use Rattle.text_fields.specs.Got.{Adds}
+use Rattle.text_fields.specs.Letters.{adds}
+use Rattle.text_fields.specs.declared.Cells.{Cells}
 use Rattle.text_fields.specs.declared.Letter.{Letter}
 use Rattle.text_fields.specs.declared.Letter.the-variants.{Body, Contact, Normal, Tangent, Step, Other}
-use Rattle.base_words.proofs.Pick.{never}
-use Rattle.text_line.specs.Lines.{full, lacks}
-use Rattle.text_line.specs.Filled.{Sane, nightOf, roomOf}
+use Rattle.text_line.specs.Night.{Night}
+use Rattle.text_line.specs.Lines.{asksFloats, full, lacks}
+use Rattle.text_line.specs.Filled.{Full, HasRoom, Sane, nightOf, roomOf}
 use Rattle.text_line.specs.declared.State.{State}
 
 left-by : (size used more : ℕ) (t : Bool) → ltb (size - used) more ≡ t → used ≤ size → t ≡ ltb size (used + more)
@@ -24,84 +28,68 @@ pub left : (size used more : ℕ) → used ≤ size → ltb (size - used) more �
 left size used more h = left-by size used more (ltb (size - used) more) refl h
 
 -- the same of a table filled so far
-as-filled : (l : List ℕ) (used more : ℕ) → used ≤ length l → lacks (length l) more (take used l) ≡ ltb (length l) (used + more)
+as-filled : (l : List ℕ) (used more : ℕ) → used ≤ length l → ltb (length l) (used + more) ≡ lacks (length l) more (take used l)
 unfolding lacks
 as-filled l used more h = rw (length-take-le used l h)
 
-or-both : {r x y u v : Bool} → x ≡ u → y ≡ v → r ≡ (x || y) → r ≡ (u || v)
-or-both p q k = rw (← p, ← q) k
+fits : (l : List ℕ) (used more : ℕ) → used ≤ length l → lacks (length l) more (take used l) ≡ false → used + more ≤ length l
+fits l used more h e = ltb-false _ _ (as-filled l used more h ∙ e)
 
-module _ (l : Letter) {r : Bool} (st : State) (bodies numbers floats steps : List ℕ) (sane : Sane st bodies numbers floats steps) where
-  pub body-full : l ≡ Body → r ≡ ltb (length bodies) (st .bodies + 3)
-      → r ≡ full (roomOf bodies numbers floats steps) l (nightOf st bodies numbers floats steps)
-  unfolding roomOf nightOf
-  body-full e h = rw e (h ∙ sym (as-filled bodies (st .bodies) 3 (sane .bodies-fit)))
+-- where a night's tables are not full, none of them lacks room
+four : (b n f s : Bool) → (b || n || f || s) ≡ false → (b ≡ false) × (n ≡ false) × (f ≡ false) × (s ≡ false)
+four b n f s e =
+    let three = none-l (b || n || f) s e in
+    let two = none-l (b || n) f three in
+    (none-l b n two, none-r b n two, none-r (b || n) f three, none-r (b || n || f) s e)
 
-  pub contact-full : {x y : Bool} → l ≡ Contact → x ≡ ltb (length numbers) (st .numbers + 3) → y ≡ ltb (length floats) (st .floats + 45)
-      → r ≡ (x || y) → r ≡ full (roomOf bodies numbers floats steps) l (nightOf st bodies numbers floats steps)
-  unfolding roomOf nightOf
-  contact-full e h h′ k =
-      let no-numbers = h ∙ sym (as-filled numbers (st .numbers) 3 (sane .numbers-fit)) in
-      let no-floats = h′ ∙ sym (as-filled floats (st .floats) 45 (sane .floats-fit)) in
-      rw e (or-both no-numbers no-floats k)
+pub roomy : (room : Cells) (l : Letter) (t : Night) → full room l t ≡ false
+    → (lacks (room .bodies) (adds l .bodies) (t .bodies) ≡ false) × (lacks (room .numbers) (adds l .numbers) (t .numbers) ≡ false)
+    × (lacks (room .floats) (asksFloats l) (t .floats) ≡ false) × (lacks (room .steps) (adds l .steps) (t .steps) ≡ false)
+unfolding full
+roomy room l t e =
+    four (lacks (room .bodies) (adds l .bodies) (t .bodies)) (lacks (room .numbers) (adds l .numbers) (t .numbers))
+    (lacks (room .floats) (asksFloats l) (t .floats)) (lacks (room .steps) (adds l .steps) (t .steps)) e
 
-  pub normal-full : l ≡ Normal → r ≡ ltb (length floats) (st .floats + 10)
-      → r ≡ full (roomOf bodies numbers floats steps) l (nightOf st bodies numbers floats steps)
-  unfolding roomOf nightOf
-  normal-full e h = rw e (h ∙ sym (as-filled floats (st .floats) 10 (sane .floats-fit)))
+-- a contact asks for the floats of its C line, and more
+no-less : (l : Letter) → adds l .floats ≤ asksFloats l
+no-less Body = lit≤ tt
+no-less Contact = lit≤ tt
+no-less Normal = lit≤ tt
+no-less Tangent = lit≤ tt
+no-less Step = lit≤ tt
+no-less Other = lit≤ tt
 
-  pub tangent-full : l ≡ Tangent → r ≡ ltb (length floats) (st .floats + 8)
-      → r ≡ full (roomOf bodies numbers floats steps) l (nightOf st bodies numbers floats steps)
-  unfolding roomOf nightOf
-  tangent-full e h = rw e (h ∙ sym (as-filled floats (st .floats) 8 (sane .floats-fit)))
+module _ (l : Letter) (st : State) (bodies numbers floats steps : List ℕ) (sane : Sane st bodies numbers floats steps) where
+  -- the four tests
+  as-tests : full (roomOf bodies numbers floats steps) l (nightOf st bodies numbers floats steps)
+      ≡ (ltb (length bodies) (st .bodies + adds l .bodies) || ltb (length numbers) (st .numbers + adds l .numbers)
+      || ltb (length floats) (st .floats + asksFloats l) || ltb (length steps) (st .steps + adds l .steps))
+  unfolding full roomOf nightOf
+  as-tests =
+      rw (
+        as-filled bodies (st .bodies) (adds l .bodies) (sane .bodies-fit),
+        as-filled numbers (st .numbers) (adds l .numbers) (sane .numbers-fit),
+        as-filled floats (st .floats) (asksFloats l) (sane .floats-fit),
+        as-filled steps (st .steps) (adds l .steps) (sane .steps-fit),
+      )
 
-  pub step-full : l ≡ Step → r ≡ ltb (length steps) (st .steps + 2)
-      → r ≡ full (roomOf bodies numbers floats steps) l (nightOf st bodies numbers floats steps)
-  unfolding roomOf nightOf
-  step-full e h = rw e (h ∙ sym (as-filled steps (st .steps) 2 (sane .steps-fit)))
+  -- where none of them holds there is room
+  fitting : full (roomOf bodies numbers floats steps) l (nightOf st bodies numbers floats steps) ≡ false
+      → HasRoom l st bodies numbers floats steps
+  unfolding roomOf nightOf HasRoom
+  fitting h =
+      let r = roomy (roomOf bodies numbers floats steps) l (nightOf st bodies numbers floats steps) h in (
+        fits bodies (st .bodies) (adds l .bodies) (sane .bodies-fit) (r .0),
+        fits numbers (st .numbers) (adds l .numbers) (sane .numbers-fit) (r .1),
+        omega (arith, no-less l, fits floats (st .floats) (asksFloats l) (sane .floats-fit) (r .2)),
+        fits steps (st .steps) (adds l .steps) (sane .steps-fit) (r .3),
+      )
 
-pub other-full : (l : Letter) (st : State) (bodies numbers floats steps : List ℕ) → l ≡ Other
-    → true ≡ full (roomOf bodies numbers floats steps) l (nightOf st bodies numbers floats steps)
-other-full l st bodies numbers floats steps e = rw e
-
-or-false : (x y : Bool) → (x || y) ≡ false → (x ≡ false) × (y ≡ false)
-or-false true y e = (e, never e)
-or-false false y e = (refl, e)
-
-fits : (t : List ℕ) (used more : ℕ) → used ≤ length t → lacks (length t) more (take used t) ≡ false → used + more ≤ length t
-fits t used more g e = ltb-false _ _ (sym (as-filled t used more g) ∙ e)
-
--- a table that is not full has room for what it is asked for
-module _ (l : Letter) (st : State) (bodies numbers floats steps : List ℕ) (sane : Sane st bodies numbers floats steps)
-    (h : full (roomOf bodies numbers floats steps) l (nightOf st bodies numbers floats steps) ≡ false) where
-  pub room-body : l ≡ Body → st .bodies + 3 ≤ length bodies
-  unfolding roomOf nightOf
-  room-body e = fits bodies (st .bodies) 3 (sane .bodies-fit) (rw e at h)
-
-  pub room-numbers : l ≡ Contact → st .numbers + 3 ≤ length numbers
-  unfolding roomOf nightOf
-  room-numbers e =
-      fits numbers (st .numbers) 3 (sane .numbers-fit)
-      (or-false _ (lacks (length floats) 45 (take (st .floats) floats)) (rw e at h) .0)
-
-  pub room-head : l ≡ Contact → st .floats + 9 ≤ length floats
-  unfolding roomOf nightOf
-  room-head e =
-      let room = or-false (lacks (length numbers) 3 (take (st .numbers) numbers)) _ (rw e at h) .1 in
-      let whole : st .floats + 45 ≤ length floats = fits floats (st .floats) 45 (sane .floats-fit) room in
-      omega arith
-
-  pub room-normal : l ≡ Normal → st .floats + 10 ≤ length floats
-  unfolding roomOf nightOf
-  room-normal e = fits floats (st .floats) 10 (sane .floats-fit) (rw e at h)
-
-  pub room-tangent : l ≡ Tangent → st .floats + 8 ≤ length floats
-  unfolding roomOf nightOf
-  room-tangent e = fits floats (st .floats) 8 (sane .floats-fit) (rw e at h)
-
-  pub room-step : l ≡ Step → st .steps + 2 ≤ length steps
-  unfolding roomOf nightOf
-  room-step e = fits steps (st .steps) 2 (sane .steps-fit) (rw e at h)
-
-  pub room-other : l ≡ Other → ⊥
-  room-other e = never (rw e at h)
+  pub tested : {cells : Cells} {b n f s : Bool} {whole : ℕ} → Adds l cells → whole ≡ asksFloats l
+      → b ≡ ltb (length bodies) (st .bodies + cells .bodies) → n ≡ ltb (length numbers) (st .numbers + cells .numbers)
+      → f ≡ ltb (length floats) (st .floats + whole) → s ≡ ltb (length steps) (st .steps + cells .steps)
+      → Full l st bodies numbers floats steps (b || n || f || s)
+  tested {cells} {b} {n} {f} {s} a e p q r t =
+      let same : (b || n || f || s) ≡ full (roomOf bodies numbers floats steps) l (nightOf st bodies numbers floats steps) =
+      rw (p, q, r, t, e, a .bodies, a .numbers, a .steps) (sym as-tests) in
+      record { is = same; room = λ h. fitting (sym same ∙ h) }

@@ -1,27 +1,28 @@
 -- Document 01, "Text form" and "Tables": what has been read of a text. Assumes nothing.
 use Prim.Native.Nat.{ℕ, _*_}
 use mathlib.Core.List.{List, []}
+use Rattle.base_places.specs.Places.{bodyWidth, floatsWidth, numbersWidth, programBodies, programContacts, programSteps, stepWidth}
+use Rattle.text_fields.specs.declared.Cells.{Cells}
+use Rattle.text_line.specs.declared.Place.{Place}
+use Rattle.text_line.specs.declared.Place.the-variants.{Bodies}
 
--- The bodies' floats, 3 a row; the contacts' numbers, 3 a row, and their floats, 45 a row; the steps' numbers, 2 a row: row after row,
--- floats as their bits. And the place in the order of lines: 0 among the bodies; 1 to 4 in a contact, before its N, T, N, T; 5 after a
--- contact; 6 among the steps
+-- The place in the order of lines; the bodies' floats, the contacts' numbers and floats, and the steps' numbers: row after row, floats as
+-- their bits
 pub record Night : Type 0 where
-  pub place : ℕ
+  pub place : Place
   pub bodies : List ℕ
   pub numbers : List ℕ
   pub floats : List ℕ
   pub steps : List ℕ
 
 unfoldable pub blank : Night
-blank = record { place = 0; bodies = []; numbers = []; floats = []; steps = [] }
+blank = record { place = Bodies; bodies = []; numbers = []; floats = []; steps = [] }
 
--- how many numbers each table holds
-pub record Room : Type 0 where
-  pub bodies : ℕ
-  pub numbers : ℕ
-  pub floats : ℕ
-  pub steps : ℕ
-
--- "The text program holds 64, 64 and 256"
-unfoldable pub ofProgram : Room
-ofProgram = record { bodies = 64 * 3; numbers = 64 * 3; floats = 64 * 45; steps = 256 * 2 }
+-- "The text program holds 64, 64 and 256": how many numbers each table holds
+unfoldable pub ofProgram : Cells
+ofProgram = record {
+  bodies = programBodies * bodyWidth;
+  numbers = programContacts * numbersWidth;
+  floats = programContacts * floatsWidth;
+  steps = programSteps * stepWidth;
+}

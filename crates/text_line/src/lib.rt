@@ -1,20 +1,48 @@
-// A line of the text form: whether its letter is known and in order, its fields are well formed and its table has
-// room, and what it adds to the tables.
+// A line of the text form: whether its letter is known and in order, its fields are well formed and its tables have
+// room, and what it adds to them.
+use base_places::BODY_WIDTH;
+use base_places::FLOATS_WIDTH;
+use base_places::HEAD_WIDTH;
+use base_places::NORMAL_WIDTH;
+use base_places::NUMBERS_WIDTH;
+use base_places::STEP_WIDTH;
+use base_places::TANGENT_WIDTH;
 use text_fields::Letter;
+use text_fields::Row;
 ghost use mathlib.Core.Path.{_≡_};
-ghost use mathlib.Core.Bool.{false};
 ghost use Prim.Native.Nat.{_+_, _≤_};
 ghost use lib.Dec.{ltb};
-ghost use lib.ListN.{length, take};
-ghost use lib.Seq.{sets};
-ghost use Rattle.base_words.specs.Choice.{if_then_else_};
-ghost use Rattle.text_line.specs.Lines.{full, nextPlace};
-ghost use Rattle.text_line.specs.Lines.{unknown as Lines·unknown};
-ghost use Rattle.text_line.specs.Filled.{Put, ReadLine, Sane, nightOf, roomOf};
+ghost use lib.ListN.{length};
+ghost use Rattle.base_places.specs.Places.{normalWidth};
+ghost use Rattle.text_fields.specs.Got.{Small, most};
+ghost use Rattle.text_fields.specs.Letters.{adds};
+ghost use Rattle.text_fields.specs.declared.Form.the-variants.{Decimal};
+ghost use Rattle.text_line.specs.Lines.{asksFloats, inContact, nextPlace, number};
+ghost use Rattle.text_line.specs.Lines.{is as Lines·is};
+ghost use Rattle.text_line.specs.Lines.{on as Lines·on};
+ghost use Rattle.text_line.specs.Filled.{Appended, Full, HasRoom, Put, ReadLine, ReadOrdered, Sane};
+
+// The place in the order of lines: among the bodies; in a contact, before its N, T, N or T; after a contact; among the
+// steps.
+pub enum Place {
+    Bodies,
+    NormalA,
+    TangentA,
+    NormalB,
+    TangentB,
+    Contacts,
+    Steps,
+}
+
+// Where a line leads.
+pub enum Next {
+    To(Place),
+    OutOfOrder,
+}
 
 // The place in the order of lines, and how many numbers of each table are filled.
 pub struct State {
-    pub place: u8,
+    pub place: Place,
     pub bodies: usize,
     pub numbers: usize,
     pub floats: usize,
@@ -27,37 +55,65 @@ pub enum LineRead {
     Bad(u8),
 }
 
-fn unknown(l: Letter) -> bool
-    ensures { λ r. ⌜ r ≡ Lines·unknown l ⌝ }
+fn number_of(l: Letter) -> u8
+    ensures { λ r. ⌜ r ≡ number l ⌝ }
 {
     match l {
-        Letter::Body => false,
-        Letter::Contact => false,
-        Letter::Normal => false,
-        Letter::Tangent => false,
-        Letter::Step => false,
-        Letter::Other => true,
+        Letter::Body => 0,
+        Letter::Contact => 1,
+        Letter::Normal => 2,
+        Letter::Tangent => 3,
+        Letter::Step => 4,
+        Letter::Other => 5,
     }
 }
 
-// x where the test holds, else y.
-fn either(test: bool, x: u8, y: u8) -> u8
-    ensures { λ r. ⌜ r ≡ (if test then x else y) ⌝ }
+fn is(l: Letter, m: Letter) -> bool
+    ensures { λ r. ⌜ r ≡ Lines·is l m ⌝ }
 {
-    if test { x } else { y }
+    number_of(l) == number_of(m)
 }
 
-// The place after a letter, 7 where it is out of order.
-fn next_place(l: Letter, p: u8) -> u8
+// To a place with the letter that is awaited; else elsewhere.
+fn on(l: Letter, awaited: Letter, place: Place, other: Next) -> Next
+    ensures { λ r. ⌜ r ≡ Lines·on l awaited place other ⌝ }
+{
+    if is(l, awaited) {
+        Next::To(place)
+    } else {
+        other
+    }
+}
+
+// Where a letter leads from a place.
+fn next_place(l: Letter, p: Place) -> Next
     ensures { λ r. ⌜ r ≡ nextPlace l p ⌝ }
 {
-    match l {
-        Letter::Body => either(p == 0, 0, 7),
-        Letter::Contact => either((p == 0) | (p == 5), 1, 7),
-        Letter::Normal => either(p == 1, 2, either(p == 3, 4, 7)),
-        Letter::Tangent => either(p == 2, 3, either(p == 4, 5, 7)),
-        Letter::Step => either((p == 0) | (p == 5) | (p == 6), 6, 7),
-        Letter::Other => 7,
+    let step = on(l, Letter::Step, Place::Steps, Next::OutOfOrder);
+    let contact = on(l, Letter::Contact, Place::NormalA, step);
+    match p {
+        Place::Bodies => on(l, Letter::Body, Place::Bodies, contact),
+        Place::NormalA => on(l, Letter::Normal, Place::TangentA, Next::OutOfOrder),
+        Place::TangentA => on(l, Letter::Tangent, Place::NormalB, Next::OutOfOrder),
+        Place::NormalB => on(l, Letter::Normal, Place::TangentB, Next::OutOfOrder),
+        Place::TangentB => on(l, Letter::Tangent, Place::Contacts, Next::OutOfOrder),
+        Place::Contacts => contact,
+        Place::Steps => step,
+    }
+}
+
+// Whether a contact's lines are not all there yet.
+pub fn in_contact(p: Place) -> bool
+    ensures { λ r. ⌜ r ≡ inContact p ⌝ }
+{
+    match p {
+        Place::Bodies => false,
+        Place::NormalA => true,
+        Place::TangentA => true,
+        Place::NormalB => true,
+        Place::TangentB => true,
+        Place::Contacts => false,
+        Place::Steps => false,
     }
 }
 
@@ -67,6 +123,18 @@ fn lacks(size: usize, used: usize, more: usize) -> bool
     ensures { λ r. ⌜ r ≡ ltb size (used + more) ⌝ }
 {
     size - used < more
+}
+
+// How many floats a line asks for: a contact's are asked for whole, at its C line.
+fn asks_floats(l: Letter, floats: usize) -> usize
+    requires { ⌜ floats ≡ adds l .floats ⌝ }
+    ensures { λ r. ⌜ r ≡ asksFloats l ⌝ }
+{
+    if is(l, Letter::Contact) {
+        FLOATS_WIDTH
+    } else {
+        floats
+    }
 }
 
 // Whether there is no room for a letter's numbers.
@@ -79,106 +147,94 @@ fn is_full(
     steps: &[u16],
 ) -> bool
     requires { ⌜ Sane st (now bodies) (now numbers) (now floats) (now steps) ⌝ }
-    ensures { λ r. ⌜ r ≡ full (roomOf (now (bodies .entry)) (now (numbers .entry)) (now (floats .entry)) (now (steps .entry))) l
-        (nightOf st (now (bodies .entry)) (now (numbers .entry)) (now (floats .entry)) (now (steps .entry))) ⌝ }
+    ensures { λ r. ⌜ Full l st (now (bodies .entry)) (now (numbers .entry)) (now (floats .entry)) (now (steps .entry)) r ⌝ }
 {
-    let body_cells = st.bodies;
-    let number_cells = st.numbers;
-    let float_cells = st.floats;
-    let step_cells = st.steps;
-    match l {
-        Letter::Body => lacks(bodies.len(), body_cells, 3),
-        Letter::Contact => {
-            let no_numbers = lacks(numbers.len(), number_cells, 3);
-            let no_floats = lacks(floats.len(), float_cells, 45);
-            no_numbers | no_floats
-        }
-        Letter::Normal => lacks(floats.len(), float_cells, 10),
-        Letter::Tangent => lacks(floats.len(), float_cells, 8),
-        Letter::Step => lacks(steps.len(), step_cells, 2),
-        Letter::Other => true,
-    }
+    let cells = text_fields::adds(l);
+    let no_bodies = lacks(bodies.len(), st.bodies, cells.bodies);
+    let no_numbers = lacks(numbers.len(), st.numbers, cells.numbers);
+    let no_floats = lacks(floats.len(), st.floats, asks_floats(l, cells.floats));
+    let no_steps = lacks(steps.len(), st.steps, cells.steps);
+    no_bodies | no_numbers | no_floats | no_steps
 }
 
-// The first k of what a row has, stored from place `at` on.
-fn store_numbers(t: &mut [u16], at: usize, row: [u16; 3], k: usize)
-    requires { ⌜ (at + k ≤ length (now t)) × (k ≤ 3) ⌝ }
-    ensures { λ r. ⌜ now (t .exit) ≡ sets (now (t .entry)) at (take k row) ⌝ }
+// The first k of what a row has, put to the end of a table that is filled as far as `at`; and how far it is then.
+fn append_numbers(t: &mut [u16], at: usize, row: [u32; NORMAL_WIDTH], k: usize) -> usize
+    requires { ⌜ (at + k ≤ length (now t)) × (k ≤ normalWidth) × Small (most Decimal) row ⌝ }
+    ensures { λ r. ⌜ Appended (now (t .entry)) at row k (now (t .exit)) r ⌝ }
+{
+    let mut i = 0;
+    while i < k {
+        t[at + i] = row[i] as u16;
+        i += 1;
+    }
+    at + k
+}
+
+fn append_bits(t: &mut [u32], at: usize, row: [u32; NORMAL_WIDTH], k: usize) -> usize
+    requires { ⌜ (at + k ≤ length (now t)) × (k ≤ normalWidth) ⌝ }
+    ensures { λ r. ⌜ Appended (now (t .entry)) at row k (now (t .exit)) r ⌝ }
 {
     let mut i = 0;
     while i < k {
         t[at + i] = row[i];
         i += 1;
     }
+    at + k
 }
 
-fn store_bits(t: &mut [u32], at: usize, row: [u32; 10], k: usize)
-    requires { ⌜ (at + k ≤ length (now t)) × (k ≤ 10) ⌝ }
-    ensures { λ r. ⌜ now (t .exit) ≡ sets (now (t .entry)) at (take k row) ⌝ }
-{
-    let mut i = 0;
-    while i < k {
-        t[at + i] = row[i];
-        i += 1;
-    }
-}
-
-// What a line says, put to the end of its tables.
+// What a line says, put to the end of the tables.
 fn put_row(
     l: Letter,
+    place: Place,
     st: State,
-    said: [u16; 3],
-    bits: [u32; 10],
+    row: Row,
     bodies: &mut [u32],
     numbers: &mut [u16],
     floats: &mut [u32],
     steps: &mut [u16],
 ) -> State
-    requires { ⌜ Sane st (now bodies) (now numbers) (now floats) (now steps)
-        × (full (roomOf (now bodies) (now numbers) (now floats) (now steps)) l
-        (nightOf st (now bodies) (now numbers) (now floats) (now steps)) ≡ false) ⌝ }
-    ensures { λ r. ⌜ Put l st said bits (now (bodies .entry)) (now (numbers .entry)) (now (floats .entry)) (now (steps .entry)) r
+    requires { ⌜ HasRoom l st (now bodies) (now numbers) (now floats) (now steps) × Small (most Decimal) (row .numbers) ⌝ }
+    ensures { λ r. ⌜ Put l place st (row .numbers) (row .bits)
+        (now (bodies .entry)) (now (numbers .entry)) (now (floats .entry)) (now (steps .entry)) r
         (now (bodies .exit)) (now (numbers .exit)) (now (floats .exit)) (now (steps .exit)) ⌝ }
 {
-    let mut next = st;
-    let place = next_place(l, st.place);
-    match l {
-        Letter::Body => {
-            store_bits(bodies, st.bodies, bits, 3);
-            let body_cells = st.bodies + 3;
-            next.place = place;
-            next.bodies = body_cells;
-        }
-        Letter::Contact => {
-            store_numbers(numbers, st.numbers, said, 3);
-            store_bits(floats, st.floats, bits, 9);
-            let number_cells = st.numbers + 3;
-            let float_cells = st.floats + 9;
-            next.place = place;
-            next.numbers = number_cells;
-            next.floats = float_cells;
-        }
-        Letter::Normal => {
-            store_bits(floats, st.floats, bits, 10);
-            let float_cells = st.floats + 10;
-            next.place = place;
-            next.floats = float_cells;
-        }
-        Letter::Tangent => {
-            store_bits(floats, st.floats, bits, 8);
-            let float_cells = st.floats + 8;
-            next.place = place;
-            next.floats = float_cells;
-        }
-        Letter::Step => {
-            store_numbers(steps, st.steps, said, 2);
-            let step_cells = st.steps + 2;
-            next.place = place;
-            next.steps = step_cells;
-        }
-        Letter::Other => {}
+    let cells = text_fields::adds(l);
+    let said = row.numbers;
+    let bits = row.bits;
+    State {
+        place,
+        bodies: append_bits(bodies, st.bodies, bits, cells.bodies),
+        numbers: append_numbers(numbers, st.numbers, said, cells.numbers),
+        floats: append_bits(floats, st.floats, bits, cells.floats),
+        steps: append_numbers(steps, st.steps, said, cells.steps),
     }
-    next
+}
+
+// A line whose letter leads to a place.
+fn read_ordered(
+    l: Letter,
+    place: Place,
+    st: State,
+    line: &[u8],
+    bodies: &mut [u32],
+    numbers: &mut [u16],
+    floats: &mut [u32],
+    steps: &mut [u16],
+) -> LineRead
+    requires { ⌜ Sane st (now bodies) (now numbers) (now floats) (now steps) ⌝ }
+    ensures { λ r. ⌜ ReadOrdered l place st (now (line .entry))
+        (now (bodies .entry)) (now (numbers .entry)) (now (floats .entry)) (now (steps .entry)) r
+        (now (bodies .exit)) (now (numbers .exit)) (now (floats .exit)) (now (steps .exit)) ⌝ }
+{
+    let row = text_fields::read_row(l, line);
+    if !row.good {
+        return LineRead::Bad(4);
+    }
+    if is_full(l, st, bodies, numbers, floats, steps) {
+        return LineRead::Bad(5);
+    }
+    let next = put_row(l, place, st, row, bodies, numbers, floats, steps);
+    LineRead::Good(next)
 }
 
 // One line.
@@ -196,22 +252,13 @@ pub fn read_line(
         (now (bodies .exit)) (now (numbers .exit)) (now (floats .exit)) (now (steps .exit)) ⌝ }
 {
     let l = text_fields::line_letter(line);
-    if unknown(l) {
+    if is(l, Letter::Other) {
         return LineRead::Bad(2);
     }
-    let place = next_place(l, st.place);
-    if place == 7 {
-        return LineRead::Bad(3);
+    let place = st.place;
+    let next = next_place(l, place);
+    match next {
+        Next::OutOfOrder => LineRead::Bad(3),
+        Next::To(p) => read_ordered(l, p, st, line, bodies, numbers, floats, steps),
     }
-    let row = text_fields::read_row(l, line);
-    if !row.good {
-        return LineRead::Bad(4);
-    }
-    if is_full(l, st, bodies, numbers, floats, steps) {
-        return LineRead::Bad(5);
-    }
-    let said = row.numbers;
-    let bits = row.bits;
-    let next = put_row(l, st, said, bits, bodies, numbers, floats, steps);
-    LineRead::Good(next)
 }

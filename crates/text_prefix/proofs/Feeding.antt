@@ -7,8 +7,10 @@ use mathlib.Core.Path.{_≡_, refl}
 use borrow.Author.Tests.{ltb-true}
 use lib.Dec.{eqb, ltb}
 use lib.ListN.{length, length-append}
-use Rattle.text_line.specs.Night.{Night, Room, blank, ofProgram}
+use Rattle.base_places.specs.Places.{mostInLine}
+use Rattle.text_line.specs.Night.{Night, blank, ofProgram}
 use Rattle.text_line.specs.Lines.{LineCame, bad, good, readLine}
+use Rattle.text_fields.specs.declared.Cells.{Cells}
 use Rattle.text_read.specs.Text.{Text, feed, feeds, lineEnded, reading, refused}
 use Rattle.text_prefix.proofs.Spent.{Spent, line-spent, nothing-spent}
 
@@ -17,7 +19,7 @@ pub record Reading (n : ℕ) (line : List ℕ) (t : Night) : Type 0 where
   pub before : ℕ
   pub spent : Spent t before
   pub all : n ≡ before + length line
-  pub short : length line ≤ 160
+  pub short : length line ≤ mostInLine
 
 abbrev pub Read : ℕ → Text → Type 0
 Read n (reading line number t) = Reading n line t
@@ -34,19 +36,19 @@ ended-by n line number t r (good t′) e = record {
 }
 ended-by n line number t r (bad reason) e = tt
 
-fed-by : (n : ℕ) (line : List ℕ) (number : ℕ) (t : Night) → Reading n line t → (b : ℕ) (ends room : Bool) → ltb (length line) 160 ≡ room
+fed-by : (n : ℕ) (line : List ℕ) (number : ℕ) (t : Night) → Reading n line t → (b : ℕ) (ends room : Bool) → ltb (length line) mostInLine ≡ room
     → Read (suc n)
     (cond ends (lineEnded number (readLine ofProgram t line)) (cond room (reading (line ++ (b ∷ [])) number t) (refused number 1)))
 fed-by n line number t r b true room e = ended-by n line number t r (readLine ofProgram t line) refl
 fed-by n line number t r b false true e =
     let l = length-append line (b ∷ []) in
-    record { before = r .before; spent = r .spent; all = omega (arith, r .all); short = omega (arith, ltb-true (length line) 160 e) }
+    record { before = r .before; spent = r .spent; all = omega (arith, r .all); short = omega (arith, ltb-true (length line) mostInLine e) }
 fed-by n line number t r b false false e = tt
 
 -- one byte more
 fed : (n : ℕ) (x : Text) (b : ℕ) → Read n x → Read (suc n) (feed ofProgram x b)
 unfolding feed
-fed n (reading line number t) b r = fed-by n line number t r b (eqb b 10) (ltb (length line) 160) refl
+fed n (reading line number t) b r = fed-by n line number t r b (eqb b 10) (ltb (length line) mostInLine) refl
 fed n (refused number reason) b r = tt
 
 -- so many more
@@ -64,6 +66,6 @@ fed-all s =
     rw e at (all-fed s 0 (reading [] 1 blank) (record { before = 0; spent = nothing-spent; all = refl; short = omega arith }))
 
 -- no byte more
-pub feeds-none : (room : Room) (x : Text) → feeds room x [] ≡ x
+pub feeds-none : (room : Cells) (x : Text) → feeds room x [] ≡ x
 unfolding feeds
 feeds-none room x = refl

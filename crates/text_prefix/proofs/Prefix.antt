@@ -7,17 +7,18 @@ use mathlib.Core.Path.{_≡_, refl}
 use borrow.Author.Tests.{eqb-true}
 use lib.Dec.{eqb}
 use lib.ListN.{drop, drop-of-length-le, length, length-take, take, take-append-drop}
+use Rattle.base_places.specs.Places.{deciding, longestText, mostInLine}
 use Rattle.text_line.specs.Night.{Night, blank, ofProgram}
-use Rattle.text_line.specs.Lines.{LineCame, bad, good, readLine}
-use Rattle.text_read.specs.Text.{Text, closed, cutShort, feeds, lineEnded, reading, refused, textOf, wholeContacts}
-use Rattle.text_read.proofs.Closing.{feeds-append, feeds-refused}
-use Rattle.text_prefix.specs.Prefix.{LongestGood, PrefixDecides, TablesHold, enough, longest}
-use Rattle.text_prefix.proofs.Spent.{Spent, lacking, line-spent, none-lacking}
+use Rattle.text_line.specs.Lines.{LineCame, bad, good, inContact, readLine}
+use Rattle.text_read.specs.Text.{Text, closed, feeds, lineEnded, reading, refused, textOf, wholeContacts}
+use Rattle.text_read.proofs.Bytes.{feeds-append, feeds-refused}
+use Rattle.text_prefix.specs.Prefix.{LongestGood, PrefixDecides, TablesHold}
+use Rattle.text_prefix.proofs.Spent.{Spent, line-spent, none-left, normalsLeft, tangentsLeft}
 use Rattle.text_prefix.proofs.Feeding.{Read, Reading, fed-all, feeds-none}
 
 -- the tables hold no more lines
-spent-most : (t : Night) (w : ℕ) → Spent t w → w ≤ longest
-spent-most t w p = omega (arith, p .paid, p .bodies .few, p .contacts .few, p .steps .few)
+spent-most : (t : Night) (w : ℕ) → Spent t w → w ≤ longestText
+spent-most t w p = omega (arith, p .paid, p .few, p .normals, p .tangents)
 
 -- a whole text was no refused one
 whole-refused : (number reason : ℕ) (line : List ℕ) (n : ℕ) (t : Night) → wholeContacts (refused number reason) ≡ reading line n t → ⊥
@@ -31,18 +32,20 @@ whole-by false line′ number t′ line n t e = (refl, cc)
 
 -- a whole text says what was read, and no contact was cut short
 whole-same : (line′ : List ℕ) (number : ℕ) (t′ : Night) (line : List ℕ) (n : ℕ) (t : Night)
-    → wholeContacts (reading line′ number t′) ≡ reading line n t → (lacking (t′ .place) ≡ 0) × (t′ ≡ t)
-unfolding wholeContacts cutShort
+    → wholeContacts (reading line′ number t′) ≡ reading line n t → (normalsLeft (t′ .place) ≡ 0) × (tangentsLeft (t′ .place) ≡ 0) × (t′ ≡ t)
+unfolding wholeContacts
 whole-same line′ number t′ line n t e =
-    let w = whole-by (cutShort t′) line′ number t′ line n t e in
-    (none-lacking (t′ .place) (w .0), w .1)
+    let w = whole-by (inContact (t′ .place)) line′ number t′ line n t e in
+    let left = none-left (t′ .place) (w .0) in
+    (left .0, left .1, w .1)
 
 -- t was read from m bytes, or a byte 10 more, and its contacts are whole
 record Came (m : ℕ) (t : Night) : Type 0 where
   bytes : ℕ
   spent : Spent t bytes
   all : m ≤ bytes
-  whole : lacking (t .place) ≡ 0
+  normals : normalsLeft (t .place) ≡ 0
+  tangents : tangentsLeft (t .place) ≡ 0
 
 module _ (m : ℕ) (line : List ℕ) (n : ℕ) (t : Night) where
   -- a last line that lacks its byte 10 is a good one too
@@ -53,9 +56,10 @@ module _ (m : ℕ) (line : List ℕ) (n : ℕ) (t : Night) where
       let same = whole-same [] (number + 1) t″ line n t e in
       record {
         bytes = r .before + suc (length line′);
-        spent = rw (same .1) at (line-spent t′ line′ (r .before) (r .spent) t″ p);
+        spent = rw (same .2) at (line-spent t′ line′ (r .before) (r .spent) t″ p);
         all = omega (arith, r .all);
-        whole = rw (same .1) at (same .0);
+        normals = rw (same .2) at (same .0);
+        tangents = rw (same .2) at (same .1);
       }
   last-line line′ number t′ r (bad reason) p e = absurd (whole-refused number reason line n t e)
 
@@ -65,9 +69,10 @@ module _ (m : ℕ) (line : List ℕ) (n : ℕ) (t : Night) where
       let same = whole-same [] number t′ line n t e in
       record {
         bytes = r .before;
-        spent = rw (same .1) at (r .spent);
+        spent = rw (same .2) at (r .spent);
         all = omega (arith, r .all, eqb-true (length line′) 0 p);
-        whole = rw (same .1) at (same .0);
+        normals = rw (same .2) at (same .0);
+        tangents = rw (same .2) at (same .1);
       }
   closed-by line′ number t′ r false p e = last-line line′ number t′ r (readLine ofProgram t′ line′) refl e
 
@@ -88,26 +93,26 @@ tables-hold s line n t e =
     let c = came s line n t e in
     let p = c .spent in
     record {
-      b = p .b;
-      c = p .c;
-      s = p .s;
-      bodies = p .bodies .whole;
-      numbers = p .contacts .whole;
-      floats = omega (arith, p .floats, c .whole);
-      steps = p .steps .whole;
-      few-bodies = p .bodies .few;
-      few-contacts = p .contacts .few;
-      few-steps = p .steps .few;
+      b = p .read .b;
+      c = p .read .c;
+      s = p .read .s;
+      bodies = p .bodies;
+      numbers = p .numbers;
+      floats = omega (arith, p .floats, p .normals, p .tangents, c .normals, c .tangents);
+      steps = p .steps;
+      few-bodies = p .few .0;
+      few-contacts = p .few .1;
+      few-steps = p .few .2;
     }
 
 -- after so many bytes a text is refused, and the rest changes nothing; after fewer there is no rest
-no-more : (m : ℕ) (x : Text) → Read m x → (rest : List ℕ) → (m ≤ longest + 160 → rest ≡ []) → feeds ofProgram x rest ≡ x
+no-more : (m : ℕ) (x : Text) → Read m x → (rest : List ℕ) → (m ≤ longestText + mostInLine → rest ≡ []) → feeds ofProgram x rest ≡ x
 no-more m (reading line number t) r rest none =
     let e : rest ≡ [] = none (omega (arith, r .all, r .short, spent-most t (r .before) (r .spent))) in
     rw (e, feeds-none)
 no-more m (refused number reason) r rest none = feeds-refused ofProgram number reason rest
 
-cut : (k : ℕ) (s : List ℕ) → longest + 160 < k → textOf ofProgram (take k s) ≡ textOf ofProgram s
+cut : (k : ℕ) (s : List ℕ) → longestText + mostInLine < k → textOf ofProgram (take k s) ≡ textOf ofProgram s
 unfolding textOf
 cut k s h =
     let start = reading [] 1 blank in
@@ -119,4 +124,4 @@ cut k s h =
     rw (same, stays)
 
 pub prefix-decides : PrefixDecides
-prefix-decides s = cut enough s (omega arith)
+prefix-decides s = cut deciding s (omega arith)

@@ -1,239 +1,225 @@
--- How many bytes the lines took that a night was read from, by its rows and its place; and one line more. Assumes nothing.
-use Prim.Native.Nat.{ℕ, zero, suc, _+_, _*_, _≤_}
+-- How many lines of each letter a night was read from, by its tables and its place, and how many bytes they took; and one line more.
+-- Assumes nothing.
+use Prim.Native.Nat.{ℕ, suc, _+_, _*_, _≤_}
 use native.Mathlib.Omega.{arith}
-use mathlib.Core.Bool.{Bool, true, false, cond, _&&_, _||_}
-use mathlib.Core.List.{List, [], _++_}
-use mathlib.Core.Path.{_≡_, refl}
-use borrow.Author.Tests.{eqb-true, ltb-false, ne-eqb}
-use lib.Dec.{eqb, leb, lit≤}
-use lib.ListN.{length, length-append}
-use Rattle.base_words.specs.Choice.{if_then_else_}
+use mathlib.Core.Bool.{Bool, true, false, cond, _&&_}
+use mathlib.Core.List.{List, _++_}
+use mathlib.Core.Path.{_≡_, refl, _∙_}
+use borrow.Author.Tests.{eqb-true, ltb-false}
+use lib.Dec.{eqb}
+use lib.ListN.{length, length-append, take}
+use lib.Seq.{length-take-le}
+use Rattle.base_places.specs.Places.{bodyWidth, headWidth, lineBytes, normalWidth, numbersWidth, programBodies, programContacts}
+use Rattle.base_places.specs.Places.{programSteps, stepWidth, tangentWidth}
 use Rattle.base_words.proofs.Pick.{never}
+use Rattle.base_words.proofs.Said.{all-l, all-r}
 use Rattle.text_fields.specs.Fields.{Nothing, Says, Values}
-use Rattle.text_fields.specs.Letters.{lineLetter, says}
+use Rattle.text_fields.specs.Letters.{adds, asked, lineLetter, says}
+use Rattle.text_fields.specs.declared.Form.the-variants.{Decimal, Hex}
 use Rattle.text_fields.specs.declared.Letter.{Letter}
 use Rattle.text_fields.specs.declared.Letter.the-variants.{Body, Contact, Normal, Tangent, Step, Other}
 use Rattle.text_line.specs.Night.{Night, blank, ofProgram}
-use Rattle.text_line.specs.Lines.{LineCame, bad, filled, full, good, lacks, nextPlace, put, readLetter, readLine, unknown}
+use Rattle.text_line.specs.Lines.{LineCame, bad, filled, full, good, inContact, is, lacks, nextPlace, ordered, put, readLetter, readLine}
+use Rattle.text_line.specs.declared.Next.{Next}
+use Rattle.text_line.specs.declared.Next.the-variants.{To, OutOfOrder}
+use Rattle.text_line.specs.declared.Place.{Place}
+use Rattle.text_line.specs.declared.Place.the-variants.{Bodies, NormalA, TangentA, NormalB, TangentB, Contacts, Steps}
+use Rattle.text_line.proofs.Room.{roomy}
 use Rattle.text_prefix.proofs.LineBytes.{GoodLine, good-line}
 
--- what the lines may take that a contact still lacks at a place: N, T, N, T after its C; T, N, T; N, T; T
-abbrev owing : ℕ → ℕ
-owing p = if eqb p 1 then 332 else if eqb p 2 then 240 else if eqb p 3 then 166 else if eqb p 4 then 74 else 0
-
--- the floats that a contact still lacks at a place, by the same lines: 10 an N, 8 a T
-abbrev pub lacking : ℕ → ℕ
-lacking p = if eqb p 1 then 36 else if eqb p 2 then 26 else if eqb p 3 then 18 else if eqb p 4 then 8 else 0
-
--- a table of n rows of so many numbers each, and at most so many rows
-pub record Rows (width most : ℕ) (l : List ℕ) (n : ℕ) : Type 0 where
-  pub whole : length l ≡ n * width
-  pub few : n ≤ most
-
--- t was read from lines of so many bytes: 29 a body, 433 a contact but what it still lacks, 14 a step. And a
--- contact has 45 floats but those that it still lacks
-pub record Spent (t : Night) (bytes : ℕ) : Type 0 where
+-- so many lines B, C, N, T and S
+pub record Lines : Type 0 where
   pub b : ℕ
   pub c : ℕ
+  pub n : ℕ
+  pub t : ℕ
   pub s : ℕ
-  pub bodies : Rows 3 64 (t .bodies) b
-  pub contacts : Rows 3 64 (t .numbers) c
-  pub steps : Rows 2 256 (t .steps) s
-  pub floats : length (t .floats) + lacking (t .place) ≡ c * 45
-  pub paid : bytes + owing (t .place) ≤ b * 29 + c * 433 + s * 14
 
-no-rows : (width most : ℕ) → Rows width most [] 0
-no-rows width most = record { whole = omega arith; few = omega arith }
+abbrev one : Letter → Lines
+one Body = record { b = 1; c = 0; n = 0; t = 0; s = 0 }
+one Contact = record { b = 0; c = 1; n = 0; t = 0; s = 0 }
+one Normal = record { b = 0; c = 0; n = 1; t = 0; s = 0 }
+one Tangent = record { b = 0; c = 0; n = 0; t = 1; s = 0 }
+one Step = record { b = 0; c = 0; n = 0; t = 0; s = 1 }
+one Other = record { b = 0; c = 0; n = 0; t = 0; s = 0 }
+
+abbrev plus : Lines → Lines → Lines
+plus x y = record { b = x .b + y .b; c = x .c + y .c; n = x .n + y .n; t = x .t + y .t; s = x .s + y .s }
+
+-- the floats of contacts in such lines
+abbrev floatsIn : Lines → ℕ
+floatsIn x = x .c * headWidth + x .n * normalWidth + x .t * tangentWidth
+
+-- the bytes that such lines take at most
+abbrev bytesIn : Lines → ℕ
+bytesIn x =
+    x .b * lineBytes 0 bodyWidth + x .c * lineBytes numbersWidth headWidth + x .n * lineBytes 0 normalWidth
+    + x .t * lineBytes 0 tangentWidth
+    + x .s * lineBytes stepWidth 0
+
+-- the N lines and the T lines that a contact still lacks at a place
+abbrev pub normalsLeft : Place → ℕ
+normalsLeft Bodies = 0
+normalsLeft NormalA = 2
+normalsLeft TangentA = 1
+normalsLeft NormalB = 1
+normalsLeft TangentB = 0
+normalsLeft Contacts = 0
+normalsLeft Steps = 0
+
+abbrev pub tangentsLeft : Place → ℕ
+tangentsLeft Bodies = 0
+tangentsLeft NormalA = 2
+tangentsLeft TangentA = 2
+tangentsLeft NormalB = 1
+tangentsLeft TangentB = 1
+tangentsLeft Contacts = 0
+tangentsLeft Steps = 0
+
+-- t was read from lines of so many bytes
+pub record Spent (t : Night) (bytes : ℕ) : Type 0 where
+  pub read : Lines
+  pub bodies : length (t .bodies) ≡ read .b * bodyWidth
+  pub numbers : length (t .numbers) ≡ read .c * numbersWidth
+  pub floats : length (t .floats) ≡ floatsIn read
+  pub steps : length (t .steps) ≡ read .s * stepWidth
+  pub few : (read .b ≤ programBodies) × (read .c ≤ programContacts) × (read .s ≤ programSteps)
+  pub normals : read .n + normalsLeft (t .place) ≡ 2 * read .c
+  pub tangents : read .t + tangentsLeft (t .place) ≡ 2 * read .c
+  pub paid : bytes ≤ bytesIn read
 
 pub nothing-spent : Spent blank 0
 unfolding blank
 nothing-spent = record {
-  b = 0;
-  c = 0;
-  s = 0;
-  bodies = no-rows 3 64;
-  contacts = no-rows 3 64;
-  steps = no-rows 2 256;
+  read = record { b = 0; c = 0; n = 0; t = 0; s = 0 };
+  bodies = omega arith;
+  numbers = omega arith;
   floats = omega arith;
+  steps = omega arith;
+  few = (omega arith, omega arith, omega arith);
+  normals = omega arith;
+  tangents = omega arith;
   paid = omega arith;
 }
 
--- one row more, where the table does not lack room for it
-more-of-three : (l more : List ℕ) (n : ℕ) → Rows 3 64 l n → lacks (64 * 3) 3 l ≡ false → length more ≡ 3 → Rows 3 64 (l ++ more) (suc n)
+-- what a line of a letter adds, and its bytes
+record Row (l : Letter) : Type 0 where
+  bodies : adds l .bodies ≡ one l .b * bodyWidth
+  numbers : adds l .numbers ≡ one l .c * numbersWidth
+  floats : adds l .floats ≡ floatsIn (one l)
+  steps : adds l .steps ≡ one l .s * stepWidth
+  bytes : is l Other ≡ false → lineBytes (asked Decimal l) (asked Hex l) ≡ bytesIn (one l)
+
+row : (l : Letter) → Row l
+row Body = record { bodies = refl; numbers = refl; floats = refl; steps = refl; bytes = λ known. refl }
+row Contact = record { bodies = refl; numbers = refl; floats = refl; steps = refl; bytes = λ known. refl }
+row Normal = record { bodies = refl; numbers = refl; floats = refl; steps = refl; bytes = λ known. refl }
+row Tangent = record { bodies = refl; numbers = refl; floats = refl; steps = refl; bytes = λ known. refl }
+row Step = record { bodies = refl; numbers = refl; floats = refl; steps = refl; bytes = λ known. refl }
+row Other = record { bodies = refl; numbers = refl; floats = refl; steps = refl; bytes = λ known. never known }
+
+-- a letter in order leaves a contact with the lines that it lacked, but itself; a C opens one
+abbrev leaves : Letter → Place → Next → Bool
+leaves l p OutOfOrder = true
+leaves l p (To q) =
+    eqb (one l .n + normalsLeft q) (normalsLeft p + 2 * one l .c) && eqb (one l .t + tangentsLeft q) (tangentsLeft p + 2 * one l .c)
+
+each : (f : Place → Bool) → f Bodies ≡ true → f NormalA ≡ true → f TangentA ≡ true → f NormalB ≡ true → f TangentB ≡ true
+    → f Contacts ≡ true → f Steps ≡ true → (p : Place) → f p ≡ true
+each f a b c d e g h Bodies = a
+each f a b c d e g h NormalA = b
+each f a b c d e g h TangentA = c
+each f a b c d e g h NormalB = d
+each f a b c d e g h TangentB = e
+each f a b c d e g h Contacts = g
+each f a b c d e g h Steps = h
+
+all-leave : (l : Letter) (p : Place) → leaves l p (nextPlace l p) ≡ true
+all-leave Body = each (λ p. leaves Body p (nextPlace Body p)) refl refl refl refl refl refl refl
+all-leave Contact = each (λ p. leaves Contact p (nextPlace Contact p)) refl refl refl refl refl refl refl
+all-leave Normal = each (λ p. leaves Normal p (nextPlace Normal p)) refl refl refl refl refl refl refl
+all-leave Tangent = each (λ p. leaves Tangent p (nextPlace Tangent p)) refl refl refl refl refl refl refl
+all-leave Step = each (λ p. leaves Step p (nextPlace Step p)) refl refl refl refl refl refl refl
+all-leave Other = each (λ p. leaves Other p (nextPlace Other p)) refl refl refl refl refl refl refl
+
+left : (l : Letter) (p q : Place) → nextPlace l p ≡ To q
+    → (one l .n + normalsLeft q ≡ normalsLeft p + 2 * one l .c) × (one l .t + tangentsLeft q ≡ tangentsLeft p + 2 * one l .c)
+left l p q e =
+    let n = eqb (one l .n + normalsLeft q) (normalsLeft p + 2 * one l .c) in
+    let t = eqb (one l .t + tangentsLeft q) (tangentsLeft p + 2 * one l .c) in
+    let both : (n && t) ≡ true = rw e at (all-leave l p) in
+    (eqb-true _ _ (all-l n t both), eqb-true _ _ (all-r n t both))
+
+-- where no contact is cut short, no line is lacking
+pub none-left : (p : Place) → inContact p ≡ false → (normalsLeft p ≡ 0) × (tangentsLeft p ≡ 0)
+none-left Bodies e = (refl, refl)
+none-left NormalA e = never e
+none-left TangentA e = never e
+none-left NormalB e = never e
+none-left TangentB e = never e
+none-left Contacts e = (refl, refl)
+none-left Steps e = (refl, refl)
+
+-- a table with the first k of what was said at its end
+longer : (l more : List ℕ) (k : ℕ) {n : ℕ} → k ≤ n → length more ≡ n → length (l ++ take k more) ≡ length l + k
+longer l more k h e = length-append l (take k more) ∙ rw (length-take-le k more (rw e h))
+
+-- a table that does not lack room
+has : (room more : ℕ) (l : List ℕ) → lacks room more l ≡ false → length l + more ≤ room
 unfolding lacks
-more-of-three l more n r room e =
-    let f = ltb-false (64 * 3) (length l + 3) room in
-    record { whole = omega (arith, length-append l more); few = omega arith }
-
-more-of-two : (l more : List ℕ) (n : ℕ) → Rows 2 256 l n → lacks (256 * 2) 2 l ≡ false → length more ≡ 2 → Rows 2 256 (l ++ more) (suc n)
-unfolding lacks
-more-of-two l more n r room e =
-    let f = ltb-false (256 * 2) (length l + 2) room in
-    record { whole = omega (arith, length-append l more); few = omega arith }
-
--- A line of each letter, with its byte 10, is paid by its row or by what its contact lacks
-pays-body : (p : ℕ) (here : Bool) → eqb (cond here 0 7) 7 ≡ false → owing (cond here 0 7) + 29 ≤ owing p + 29
-pays-body p true e = omega arith
-pays-body p false e = never e
-
-pays-contact : (p : ℕ) (here : Bool) → eqb (cond here 1 7) 7 ≡ false → owing (cond here 1 7) + 101 ≤ owing p + 433
-pays-contact p true e = omega arith
-pays-contact p false e = never e
-
-pays-normal : (p : ℕ) (first second : Bool) → eqb p 1 ≡ first → eqb p 3 ≡ second → eqb (cond first 2 (cond second 4 7)) 7 ≡ false
-    → owing (cond first 2 (cond second 4 7)) + 92 ≤ owing p
-pays-normal p true second q r e = rw (eqb-true p 1 q) (omega arith)
-pays-normal p false true q r e = rw (eqb-true p 3 r) (omega arith)
-pays-normal p false false q r e = never e
-
-pays-tangent : (p : ℕ) (first second : Bool) → eqb p 2 ≡ first → eqb p 4 ≡ second → eqb (cond first 3 (cond second 5 7)) 7 ≡ false
-    → owing (cond first 3 (cond second 5 7)) + 74 ≤ owing p
-pays-tangent p true second q r e = rw (eqb-true p 2 q) (omega arith)
-pays-tangent p false true q r e = rw (eqb-true p 4 r) (omega arith)
-pays-tangent p false false q r e = never e
-
-pays-step : (p : ℕ) (here : Bool) → eqb (cond here 6 7) 7 ≡ false → owing (cond here 6 7) + 14 ≤ owing p + 14
-pays-step p true e = omega arith
-pays-step p false e = never e
-
--- .. and its floats are those that its contact lacks; other lines stand where none is open
-fills-body : (p : ℕ) (here : Bool) → eqb p 0 ≡ here → eqb (cond here 0 7) 7 ≡ false → lacking (cond here 0 7) ≡ lacking p
-fills-body p true q e = rw (eqb-true p 0 q)
-fills-body p false q e = never e
-
-fills-contact : (p : ℕ) (first after : Bool) → eqb p 0 ≡ first → eqb p 5 ≡ after → eqb (cond (first || after) 1 7) 7 ≡ false
-    → lacking (cond (first || after) 1 7) ≡ lacking p + 36
-fills-contact p true after q r e = rw (eqb-true p 0 q)
-fills-contact p false true q r e = rw (eqb-true p 5 r)
-fills-contact p false false q r e = never e
-
-fills-normal : (p : ℕ) (first second : Bool) → eqb p 1 ≡ first → eqb p 3 ≡ second → eqb (cond first 2 (cond second 4 7)) 7 ≡ false
-    → lacking (cond first 2 (cond second 4 7)) + 10 ≡ lacking p
-fills-normal p true second q r e = rw (eqb-true p 1 q)
-fills-normal p false true q r e = rw (eqb-true p 3 r)
-fills-normal p false false q r e = never e
-
-fills-tangent : (p : ℕ) (first second : Bool) → eqb p 2 ≡ first → eqb p 4 ≡ second → eqb (cond first 3 (cond second 5 7)) 7 ≡ false
-    → lacking (cond first 3 (cond second 5 7)) + 8 ≡ lacking p
-fills-tangent p true second q r e = rw (eqb-true p 2 q)
-fills-tangent p false true q r e = rw (eqb-true p 4 r)
-fills-tangent p false false q r e = never e
-
-fills-step : (p : ℕ) (first after later : Bool) → eqb p 0 ≡ first → eqb p 5 ≡ after → eqb p 6 ≡ later
-    → eqb (cond (first || after || later) 6 7) 7 ≡ false → lacking (cond (first || after || later) 6 7) ≡ lacking p
-fills-step p true after later q r z e = rw (eqb-true p 0 q)
-fills-step p false true later q r z e = rw (eqb-true p 5 r)
-fills-step p false false true q r z e = rw (eqb-true p 6 z)
-fills-step p false false false q r z e = never e
-
--- where no contact is cut short, no float is lacking
-pub none-lacking : (p : ℕ) → (leb 1 p && leb p 4) ≡ false → lacking p ≡ 0
-none-lacking zero e = refl
-none-lacking (suc zero) e = never e
-none-lacking (suc (suc zero)) e = never e
-none-lacking (suc (suc (suc zero))) e = never e
-none-lacking (suc (suc (suc (suc zero)))) e = never e
-none-lacking (suc (suc (suc (suc (suc p))))) e = rw (other 1 (lit≤ tt), other 2 (lit≤ tt), other 3 (lit≤ tt), other 4 (lit≤ tt))
-  where
-    other : (k : ℕ) → k ≤ 4 → eqb (suc (suc (suc (suc (suc p))))) k ≡ false
-    other k h = ne-eqb (suc (suc (suc (suc (suc p))))) k (λ q. omega arith)
-
-neither : (a b : Bool) → (a || b) ≡ false → (a ≡ false) × (b ≡ false)
-neither true b e = (e, never e)
-neither false b e = (refl, e)
+has room more l e = ltb-false _ _ e
 
 module _ (t : Night) (line numbers bits : List ℕ) (w : ℕ) (before : Spent t w) where
-  spent-on : (l : Letter) → unknown l ≡ false → eqb (nextPlace l (t .place)) 7 ≡ false → full ofProgram l t ≡ false
-      → GoodLine l line numbers bits → Spent (put l numbers bits t) (w + suc (length line))
+  spent-on : (l : Letter) (q : Place) → is l Other ≡ false → nextPlace l (t .place) ≡ To q → full ofProgram l t ≡ false
+      → GoodLine l line numbers bits → Spent (put l q numbers bits t) (w + suc (length line))
   unfolding put ofProgram
-  spent-on Body known order room g =
-      let p = pays-body (t .place) (eqb (t .place) 0) order in
-      let f = fills-body (t .place) (eqb (t .place) 0) refl order in
+  spent-on l q known order room g =
+      let r = row l in
+      let h = roomy ofProgram l t room in
+      let f = left l (t .place) q order in
       record {
-        b = suc (before .b);
-        c = before .c;
-        s = before .s;
-        bodies = more-of-three (t .bodies) bits (before .b) (before .bodies) room (g .measured);
-        contacts = before .contacts;
-        steps = before .steps;
-        floats = omega (arith, before .floats);
-        paid = omega (arith, before .paid, g .bytes);
+        read = plus (before .read) (one l);
+        bodies = longer (t .bodies) bits (adds l .bodies) (omega arith) (g .measured) ∙ omega (arith, before .bodies, r .bodies);
+        numbers = longer (t .numbers) numbers (adds l .numbers) (omega arith) (g .counted) ∙ omega (arith, before .numbers, r .numbers);
+        floats = longer (t .floats) bits (adds l .floats) (omega arith) (g .measured) ∙ omega (arith, before .floats, r .floats);
+        steps = longer (t .steps) numbers (adds l .steps) (omega arith) (g .counted) ∙ omega (arith, before .steps, r .steps);
+        few = (
+          omega (arith, before .bodies, r .bodies, has (programBodies * bodyWidth) (adds l .bodies) (t .bodies) (h .0)),
+          omega (arith, before .numbers, r .numbers, has (programContacts * numbersWidth) (adds l .numbers) (t .numbers) (h .1)),
+          omega (arith, before .steps, r .steps, has (programSteps * stepWidth) (adds l .steps) (t .steps) (h .3)),
+        );
+        normals = omega (arith, before .normals, f .0);
+        tangents = omega (arith, before .tangents, f .1);
+        paid = omega (arith, before .paid, g .bytes, r .bytes known);
       }
-  spent-on Contact known order room g =
-      let p = pays-contact (t .place) (eqb (t .place) 0 || eqb (t .place) 5) order in
-      let room′ = neither (lacks (64 * 3) 3 (t .numbers)) (lacks (64 * 45) 45 (t .floats)) room in
-      let f = fills-contact (t .place) (eqb (t .place) 0) (eqb (t .place) 5) refl refl order in
-      record {
-        b = before .b;
-        c = suc (before .c);
-        s = before .s;
-        bodies = before .bodies;
-        contacts = more-of-three (t .numbers) numbers (before .c) (before .contacts) (room′ .0) (g .counted);
-        steps = before .steps;
-        floats = omega (arith, before .floats, g .measured, length-append (t .floats) bits);
-        paid = omega (arith, before .paid, g .bytes);
-      }
-  spent-on Normal known order room g =
-      let p = pays-normal (t .place) (eqb (t .place) 1) (eqb (t .place) 3) refl refl order in
-      let f = fills-normal (t .place) (eqb (t .place) 1) (eqb (t .place) 3) refl refl order in
-      record {
-        b = before .b;
-        c = before .c;
-        s = before .s;
-        bodies = before .bodies;
-        contacts = before .contacts;
-        steps = before .steps;
-        floats = omega (arith, before .floats, g .measured, length-append (t .floats) bits);
-        paid = omega (arith, before .paid, g .bytes);
-      }
-  spent-on Tangent known order room g =
-      let p = pays-tangent (t .place) (eqb (t .place) 2) (eqb (t .place) 4) refl refl order in
-      let f = fills-tangent (t .place) (eqb (t .place) 2) (eqb (t .place) 4) refl refl order in
-      record {
-        b = before .b;
-        c = before .c;
-        s = before .s;
-        bodies = before .bodies;
-        contacts = before .contacts;
-        steps = before .steps;
-        floats = omega (arith, before .floats, g .measured, length-append (t .floats) bits);
-        paid = omega (arith, before .paid, g .bytes);
-      }
-  spent-on Step known order room g =
-      let p = pays-step (t .place) (eqb (t .place) 0 || eqb (t .place) 5 || eqb (t .place) 6) order in
-      let f = fills-step (t .place) (eqb (t .place) 0) (eqb (t .place) 5) (eqb (t .place) 6) refl refl refl order in
-      record {
-        b = before .b;
-        c = before .c;
-        s = suc (before .s);
-        bodies = before .bodies;
-        contacts = before .contacts;
-        steps = more-of-two (t .steps) numbers (before .s) (before .steps) room (g .counted);
-        floats = omega (arith, before .floats);
-        paid = omega (arith, before .paid, g .bytes);
-      }
-  spent-on Other known order room g = never known
 
 -- where a test would make a line bad, and it is good, the test failed
 passed : (test : Bool) (reason : ℕ) (x : LineCame) (t : Night) → cond test (bad reason) x ≡ good t → (test ≡ false) × (x ≡ good t)
 passed true reason x t e = absurd (let z : _≡_ {A = ℕ} 0 1 = cc in omega arith)
 passed false reason x t e = (refl, e)
 
-module _ (t : Night) (line : List ℕ) (w : ℕ) (before : Spent t w) (t′ : Night) where
-  spent-filled : (l : Letter) → lineLetter line ≡ l → unknown l ≡ false → eqb (nextPlace l (t .place)) 7 ≡ false
-      → (v : Values) → says l line ≡ v → filled ofProgram l t v ≡ good t′ → Spent t′ (w + suc (length line))
+module _ (t : Night) (line : List ℕ) (w : ℕ) (before : Spent t w) (t′ : Night) (l : Letter) (letter : lineLetter line ≡ l)
+    (known : is l Other ≡ false) where
+  spent-filled : (q : Place) → nextPlace l (t .place) ≡ To q → (v : Values) → says l line ≡ v → filled ofProgram l q t v ≡ good t′
+      → Spent t′ (w + suc (length line))
   unfolding filled
-  spent-filled l letter known order (Says numbers bits) said e =
-      let room = passed (full ofProgram l t) 5 (good (put l numbers bits t)) t′ e in
-      let same : put l numbers bits t ≡ t′ = cc (room .1) in
-      rw same at (spent-on t line numbers bits w before l known order (room .0) (good-line line l numbers bits letter known said))
-  spent-filled l letter known order Nothing said e = absurd (let z : _≡_ {A = ℕ} 0 1 = cc in omega arith)
+  spent-filled q order (Says numbers bits) said e =
+      let room = passed (full ofProgram l t) 5 (good (put l q numbers bits t)) t′ e in
+      let same : put l q numbers bits t ≡ t′ = cc (room .1) in
+      rw same at (spent-on t line numbers bits w before l q known order (room .0) (good-line line l numbers bits letter known said))
+  spent-filled q order Nothing said e = absurd (let z : _≡_ {A = ℕ} 0 1 = cc in omega arith)
 
-  -- a good line and its byte 10 are spent
-  pub line-spent : readLine ofProgram t line ≡ good t′ → Spent t′ (w + suc (length line))
-  unfolding readLine readLetter
-  line-spent e =
-      let l = lineLetter line in
-      let known = passed (unknown l) 2 (cond (eqb (nextPlace l (t .place)) 7) (bad 3) (filled ofProgram l t (says l line))) t′ e in
-      let order = passed (eqb (nextPlace l (t .place)) 7) 3 (filled ofProgram l t (says l line)) t′ (known .1) in
-      spent-filled (lineLetter line) refl (known .0) (order .0) (says (lineLetter line) line) refl (order .1)
+  spent-ordered : (next : Next) → nextPlace l (t .place) ≡ next → ordered ofProgram l next t (says l line) ≡ good t′
+      → Spent t′ (w + suc (length line))
+  unfolding ordered
+  spent-ordered (To q) order e = spent-filled q order (says l line) refl e
+  spent-ordered OutOfOrder order e = absurd (let z : _≡_ {A = ℕ} 0 1 = cc in omega arith)
+
+-- a good line and its byte 10 are spent
+pub line-spent : (t : Night) (line : List ℕ) (w : ℕ) → Spent t w → (t′ : Night) → readLine ofProgram t line ≡ good t′
+    → Spent t′ (w + suc (length line))
+unfolding readLine readLetter
+line-spent t line w before t′ e =
+    let l = lineLetter line in
+    let known = passed (is l Other) 2 (ordered ofProgram l (nextPlace l (t .place)) t (says l line)) t′ e in
+    spent-ordered t line w before t′ l refl (known .0) (nextPlace l (t .place)) refl (known .1)

@@ -1,38 +1,40 @@
 -- How much of a text decides what it says. Proved in proofs/Prefix.antt. Assumes nothing.
-use Prim.Native.Nat.{ℕ, _+_, _*_, _≤_}
+use Prim.Native.Nat.{ℕ, _*_, _≤_}
 use mathlib.Core.List.{List}
 use mathlib.Core.Path.{_≡_}
 use lib.ListN.{length, take}
+use Rattle.base_places.specs.Places.{bodyWidth, deciding, floatsWidth, longestText, numbersWidth, programBodies, programContacts}
+use Rattle.base_places.specs.Places.{programSteps, stepWidth}
 use Rattle.text_line.specs.Night.{Night, ofProgram}
 use Rattle.text_read.specs.Text.{reading, textOf}
 
--- the longest good text: 64 B lines of 29 bytes, 64 contacts of 433 (a C line of 101, two N of 92, two T of 74), 256 S lines of 14,
--- each with its byte 10
-abbrev pub longest : ℕ
-longest = 64 * 29 + 64 * 433 + 256 * 14
-
+-- no good text is longer
 abbrev pub LongestGood : Type 0
-LongestGood = (s line : List ℕ) (n : ℕ) (t : Night) → textOf ofProgram s ≡ reading line n t → length s ≤ longest
+LongestGood = (s line : List ℕ) (n : ℕ) (t : Night) → textOf ofProgram s ≡ reading line n t → length s ≤ longestText
 
--- a line after it is bad, and 161 bytes of it say so: 33,313 bytes decide
-abbrev pub enough : ℕ
-enough = longest + 161
-
+-- a line after it is bad, and its first bytes say so
 abbrev pub PrefixDecides : Type 0
-PrefixDecides = (s : List ℕ) → textOf ofProgram (take enough s) ≡ textOf ofProgram s
+PrefixDecides = (s : List ℕ) → textOf ofProgram (take deciding s) ≡ textOf ofProgram s
 
 -- a good text says whole rows, so many bodies, contacts and steps, and no more than the program's tables hold
 pub record WholeRows (t : Night) : Type 0 where
   pub b : ℕ
   pub c : ℕ
   pub s : ℕ
-  pub bodies : length (t .bodies) ≡ b * 3
-  pub numbers : length (t .numbers) ≡ c * 3
-  pub floats : length (t .floats) ≡ c * 45
-  pub steps : length (t .steps) ≡ s * 2
-  pub few-bodies : b ≤ 64
-  pub few-contacts : c ≤ 64
-  pub few-steps : s ≤ 256
+  pub bodies : length (t .bodies) ≡ b * bodyWidth
+  pub numbers : length (t .numbers) ≡ c * numbersWidth
+  pub floats : length (t .floats) ≡ c * floatsWidth
+  pub steps : length (t .steps) ≡ s * stepWidth
+  pub few-bodies : b ≤ programBodies
+  pub few-contacts : c ≤ programContacts
+  pub few-steps : s ≤ programSteps
 
 abbrev pub TablesHold : Type 0
 TablesHold = (s line : List ℕ) (n : ℕ) (t : Night) → textOf ofProgram s ≡ reading line n t → WholeRows t
+
+-- the two lengths, as the crates above name them
+abbrev pub longest : ℕ
+longest = longestText
+
+abbrev pub enough : ℕ
+enough = deciding

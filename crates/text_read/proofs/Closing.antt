@@ -1,30 +1,29 @@
 -- The end of a text, and the loop over its bytes. Assumes nothing.
 use Prim.Native.Nat.{ℕ, _+_, _≤_, _<_}
-use native.Mathlib.Numerals.{add-one}
 use native.Mathlib.Omega.{arith}
 use borrow.Author.Tests.{eq-eqb, ne-eqb}
-use mathlib.Core.Bool.{Bool, true, false, _&&_}
-use mathlib.Core.List.{List, [], _∷_, _++_}
+use mathlib.Core.Bool.{Bool, true, false}
+use mathlib.Core.List.{List, []}
 use mathlib.Core.Path.{_≡_, refl, sym, ap, _∙_}
-use lib.Dec.{leb}
-use lib.ListN.{drop, drop-of-length-le, getD, length}
-use lib.Seq.{drop-cons}
+use lib.ListN.{drop, length, take, take-append-drop}
+use lib.Seq.{take-length}
 use Rattle.base_words.specs.Choice.{if_then_else_}
-use Rattle.base_words.proofs.Pick.{pass, take}
-use Rattle.text_line.specs.Night.{Night, Room, blank}
-use Rattle.text_line.specs.Lines.{readLine}
+use Rattle.base_words.proofs.Pick.{pass, take as pick}
+use Rattle.text_line.specs.Night.{Night, blank}
+use Rattle.text_line.specs.Lines.{inContact, readLine}
 use Rattle.text_line.specs.Filled.{ReadLine, Sane, nightOf, roomOf}
+use Rattle.text_fields.specs.declared.Cells.{Cells}
 use Rattle.text_line.specs.declared.State.{State}
 use Rattle.text_line.specs.declared.LineRead.{LineRead}
 use Rattle.text_line.specs.declared.LineRead.the-variants.{Good, Bad}
-use Rattle.text_read.specs.Text.{Text, closed, cutShort, feed, feeds, lineEnded, reading, refused, textOf, wholeContacts}
-use Rattle.text_read.specs.AtByte.{Feeds, Fine, ReadWhole, SaneEnd, endText, fedText, textAt, wholeEnd}
+use Rattle.text_read.specs.Text.{closed, feeds, lineEnded, reading, refused, textOf, wholeContacts}
+use Rattle.text_read.specs.AtByte.{Feeds, Fine, ReadWhole, SaneEnd, endText, textAt, wholeEnd}
 use Rattle.text_read.specs.declared.Cursor.{Cursor}
 use Rattle.text_read.specs.declared.Fed.{Fed}
 use Rattle.text_read.specs.declared.Fed.the-variants.{Next, Refused}
 use Rattle.text_read.specs.declared.End.{End}
 use Rattle.text_read.specs.declared.End.the-variants.{Whole, Bad as BadEnd}
-use Rattle.text_read.proofs.Bytes.{bad-line, bytes, bytes-length, good-line, good-sane}
+use Rattle.text_read.proofs.Bytes.{bad-line, bytes, bytes-length, feeds-append, feeds-refused, good-line, good-sane}
 
 -- what was read, unless a contact is cut short
 module _ (st : State) (number : ℕ) (bodies numbers floats steps : List ℕ) where
@@ -37,8 +36,8 @@ module _ (st : State) (number : ℕ) (bodies numbers floats steps : List ℕ) wh
 
   whole-is : endText (wholeEnd st number) bodies numbers floats steps
       ≡ wholeContacts (reading [] number (nightOf st bodies numbers floats steps))
-  unfolding wholeEnd wholeContacts cutShort nightOf
-  whole-is = whole-by (leb 1 (st .place) && leb (st .place) 4)
+  unfolding wholeEnd wholeContacts nightOf
+  whole-is = whole-by (inContact (st .place))
 
   sane-by : (cut : Bool) → Sane st bodies numbers floats steps
       → SaneEnd (if cut then BadEnd number 3 else Whole st number) bodies numbers floats steps
@@ -47,19 +46,19 @@ module _ (st : State) (number : ℕ) (bodies numbers floats steps : List ℕ) wh
 
   sane-whole : Sane st bodies numbers floats steps → SaneEnd (wholeEnd st number) bodies numbers floats steps
   unfolding wholeEnd
-  sane-whole h = sane-by (leb 1 (st .place) && leb (st .place) 4) h
+  sane-whole h = sane-by (inContact (st .place)) h
 
 -- the end
-module _ (room : Room) (line : List ℕ) (number : ℕ) (t : Night) where
+module _ (room : Cells) (line : List ℕ) (number : ℕ) (t : Night) where
   closed-empty : length line ≡ 0 → closed room (reading line number t) ≡ wholeContacts (reading [] number t)
   unfolding closed
-  closed-empty h = ap wholeContacts (sym (take _ (eq-eqb _ _ h) refl))
+  closed-empty h = ap wholeContacts (sym (pick _ (eq-eqb _ _ h) refl))
 
   closed-line : (length line ≡ 0 → ⊥) → closed room (reading line number t) ≡ wholeContacts (lineEnded number (readLine room t line))
   unfolding closed
   closed-line h = ap wholeContacts (sym (pass _ (ne-eqb _ _ h) refl))
 
-closed-refused : (room : Room) (number reason : ℕ) → closed room (refused number reason) ≡ refused number reason
+closed-refused : (room : Cells) (number reason : ℕ) → closed room (refused number reason) ≡ refused number reason
 unfolding closed
 closed-refused room number reason = refl
 
@@ -67,7 +66,7 @@ whole-refused : (number reason : ℕ) → wholeContacts (refused number reason) 
 unfolding wholeContacts
 whole-refused number reason = refl
 
-module _ (k : Cursor) (x bodies numbers floats steps : List ℕ) (v : Fine k (length x) bodies numbers floats steps) where
+module _ (k : Cursor) (x bodies numbers floats steps : List ℕ) (v : Fine k x (length x) bodies numbers floats steps) where
   module _ (h : k .start < length x) {r : LineRead} {bodies′ numbers′ floats′ steps′ : List ℕ}
       (d : ReadLine (k .st) (bytes (k .start) (length x) x) bodies numbers floats steps r bodies′ numbers′ floats′ steps′) where
     some : length (bytes (k .start) (length x) x) ≡ 0 → ⊥
@@ -99,47 +98,6 @@ module _ (k : Cursor) (x bodies numbers floats steps : List ℕ) (v : Fine k (le
         sane = rw w (sane-whole (k .st) (k .number) bodies numbers floats steps (v .sane));
       }
 
--- the loop
-module _ (room : Room) where
-  feeds-cons : (t : Text) (byte : ℕ) (x : List ℕ) → feeds room t (byte ∷ x) ≡ feeds room (feed room t byte) x
-  unfolding feeds
-  feeds-cons t byte x = refl
-
-  feeds-nil : (t : Text) → feeds room t [] ≡ t
-  unfolding feeds
-  feeds-nil t = refl
-
-  pub feeds-refused : (number reason : ℕ) (x : List ℕ) → feeds room (refused number reason) x ≡ refused number reason
-  unfolding feeds feed
-  feeds-refused number reason [] = refl
-  feeds-refused number reason (byte ∷ x) = feeds-refused number reason x
-
-  -- a text cut in two
-  pub feeds-append : (t : Text) (x y : List ℕ) → feeds room t (x ++ y) ≡ feeds room (feeds room t x) y
-  unfolding feeds
-  feeds-append t [] y = refl
-  feeds-append t (byte ∷ x) y = feeds-append (feed room t byte) x y
-
-fed-next : (k : Cursor) (x : List ℕ) (i : ℕ) (bodies numbers floats steps : List ℕ)
-    → fedText (Next k) x i bodies numbers floats steps ≡ textAt k x i bodies numbers floats steps
-unfolding fedText
-fed-next k x i bodies numbers floats steps = refl
-
-fed-refused : (number reason : ℕ) (x : List ℕ) (i : ℕ) (bodies numbers floats steps : List ℕ)
-    → fedText (Refused number reason) x i bodies numbers floats steps ≡ refused number reason
-unfolding fedText
-fed-refused number reason x i bodies numbers floats steps = refl
-
--- from byte i on the text comes to g
-pub record Left (room : Room) (k : Cursor) (x : List ℕ) (i : ℕ) (bodies numbers floats steps : List ℕ) (g : Text) : Type 0 where
-  pub same : feeds room (textAt k x i bodies numbers floats steps) (drop i x) ≡ g
-
-pub begin : (room : Room) (x bodies numbers floats steps : List ℕ)
-    → Left room (record { st = record { place = 0; bodies = 0; numbers = 0; floats = 0; steps = 0 }; start = 0; number = 1 }) x 0
-    bodies numbers floats steps (feeds room (reading [] 1 blank) x)
-unfolding textAt nightOf blank
-begin room x bodies numbers floats steps = record { same = refl }
-
 -- tables of the same lengths have the same room
 same-room : (bodies numbers floats steps bodies₀ numbers₀ floats₀ steps₀ : List ℕ)
     → length bodies ≡ length bodies₀ → length numbers ≡ length numbers₀ → length floats ≡ length floats₀ → length steps ≡ length steps₀
@@ -147,43 +105,37 @@ same-room : (bodies numbers floats steps bodies₀ numbers₀ floats₀ steps₀
 unfolding roomOf
 same-room bodies numbers floats steps bodies₀ numbers₀ floats₀ steps₀ p q r t = rw (p, q, r, t)
 
-module _ (bodies₀ numbers₀ floats₀ steps₀ : List ℕ) {k : Cursor} {x : List ℕ} {i : ℕ} {bodies numbers floats steps : List ℕ} {g : Text}
-    (v : Left (roomOf bodies₀ numbers₀ floats₀ steps₀) k x i bodies numbers floats steps g)
+module _ (bodies₀ numbers₀ floats₀ steps₀ bodies numbers floats steps : List ℕ)
     (p : length bodies ≡ length bodies₀) (q : length numbers ≡ length numbers₀)
-    (u : length floats ≡ length floats₀) (w : length steps ≡ length steps₀) where
-  module _ {r : Fed} {bodies′ numbers′ floats′ steps′ : List ℕ} (h : i < length x)
-      (d : Feeds (roomOf bodies numbers floats steps) (textAt k x i bodies numbers floats steps) (getD x i 0) x i r
-      bodies′ numbers′ floats′ steps′) where
-    fed : fedText r x (i + 1) bodies′ numbers′ floats′ steps′
-        ≡ feed (roomOf bodies₀ numbers₀ floats₀ steps₀) (textAt k x i bodies numbers floats steps) (getD x i 0)
-    fed = rw (same-room bodies numbers floats steps bodies₀ numbers₀ floats₀ steps₀ p q u w) at (d .is)
+    (u : length floats ≡ length floats₀) (w : length steps ≡ length steps₀) {x : List ℕ} {i : ℕ} where
+  -- a byte made the text a refused one, and the rest changes nothing
+  pub stop : {r : Fed} {bodies′ numbers′ floats′ steps′ : List ℕ}
+      → Feeds (roomOf bodies numbers floats steps) r x i bodies′ numbers′ floats′ steps′ → (number reason : ℕ) → r ≡ Refused number reason
+      → ReadWhole (textOf (roomOf bodies₀ numbers₀ floats₀ steps₀) x) (BadEnd number reason) bodies′ numbers′ floats′ steps′
+  unfolding endText textOf
+  stop d number reason e =
+      let room = roomOf bodies₀ numbers₀ floats₀ steps₀ in
+      let z : refused number reason ≡ feeds room (reading [] 1 blank) (take i x) =
+      rw (same-room bodies numbers floats steps bodies₀ numbers₀ floats₀ steps₀ p q u w) at (rw e at (d .is)) in
+      let all : feeds room (reading [] 1 blank) x ≡ refused number reason =
+      rw (← take-append-drop i x, feeds-append, ← z) (feeds-refused room number reason (drop i x)) in
+      record { is = rw (all, closed-refused); sane = 0 }
 
-    pub turn : (k′ : Cursor) → r ≡ Next k′ → Left (roomOf bodies₀ numbers₀ floats₀ steps₀) k′ x (i + 1) bodies′ numbers′ floats′ steps′ g
-    turn k′ e = record { same = rw (drop-cons x i 0 h, feeds-cons, ← fed, e, fed-next, ← add-one i) at (v .same) }
-
-    pub stop : (number reason : ℕ) → r ≡ Refused number reason
-        → {whole : Text} → whole ≡ closed (roomOf bodies₀ numbers₀ floats₀ steps₀) g
-        → ReadWhole whole (BadEnd number reason) bodies′ numbers′ floats′ steps′
-    unfolding endText
-    stop number reason e m =
-        let z : refused number reason ≡ g = rw (drop-cons x i 0 h, feeds-cons, ← fed, e, fed-refused, feeds-refused) at (v .same) in
-        record { is = rw (m, ← z, closed-refused); sane = 0 }
-
-  pub over : i ≤ length x → length x ≤ i → {whole : Text} → whole ≡ closed (roomOf bodies₀ numbers₀ floats₀ steps₀) g
-      → whole ≡ closed (roomOf bodies numbers floats steps) (textAt k x (length x) bodies numbers floats steps)
-  over l l′ m =
+  -- all bytes were fed
+  pub over : {k : Cursor} {r : End} {bodies′ numbers′ floats′ steps′ : List ℕ} → Fine k x i bodies numbers floats steps
+      → i ≤ length x → length x ≤ i
+      → ReadWhole (closed (roomOf bodies numbers floats steps) (textAt k x (length x) bodies numbers floats steps)) r
+      bodies′ numbers′ floats′ steps′
+      → ReadWhole (textOf (roomOf bodies₀ numbers₀ floats₀ steps₀) x) r bodies′ numbers′ floats′ steps′
+  unfolding textOf
+  over v l l′ d =
       let e : i ≡ length x = omega arith in
-      let z : textAt k x (length x) bodies numbers floats steps ≡ g = rw (← e) (rw (drop-of-length-le x l′, feeds-nil) at (v .same)) in
-      rw (m, z, same-room bodies numbers floats steps bodies₀ numbers₀ floats₀ steps₀ p q u w)
+      rw (← e, v .reached, e, take-length, same-room bodies numbers floats steps bodies₀ numbers₀ floats₀ steps₀ p q u w) at d
 
-pub fine : {room : Room} {t : Text} {byte : ℕ} {x : List ℕ} {i : ℕ} {r : Fed} {bodies numbers floats steps : List ℕ}
-    → Feeds room t byte x i r bodies numbers floats steps → (k : Cursor) → r ≡ Next k → Fine k (i + 1) bodies numbers floats steps
-fine d k e = rw e at (d .fine)
+pub at-end : {k : Cursor} {x : List ℕ} {i : ℕ} {bodies numbers floats steps : List ℕ} → Fine k x i bodies numbers floats steps
+    → i ≤ length x → length x ≤ i → Fine k x (length x) bodies numbers floats steps
+at-end {k} {x} {i} v l l′ = let e : length x ≡ i = omega arith in rw e v
 
-pub text-of : (room : Room) (x : List ℕ) → textOf room x ≡ closed room (feeds room (reading [] 1 blank) x)
-unfolding textOf
-text-of room x = refl
-
-pub done : {t t′ : Text} {r : End} {bodies numbers floats steps : List ℕ} → ReadWhole t r bodies numbers floats steps → t′ ≡ t
-    → ReadWhole t′ r bodies numbers floats steps
-done v e = rw e v
+pub fine : {room : Cells} {x : List ℕ} {i : ℕ} {r : Fed} {bodies numbers floats steps : List ℕ}
+    → Feeds room r x i bodies numbers floats steps → (k : Cursor) → r ≡ Next k → Fine k x i bodies numbers floats steps
+fine d k e = rw e at (d .is)

@@ -1,13 +1,14 @@
 -- Document 01, "Text form": a text, byte by byte. Assumes nothing.
 -- "One record a line, ended by byte 10 (the last may lack it; 160 leaves it out)"
 use Prim.Native.Nat.{ℕ, _+_}
-use mathlib.Core.Bool.{Bool, _&&_}
 use mathlib.Core.List.{List, [], _∷_, _++_}
-use lib.Dec.{eqb, leb, ltb}
+use lib.Dec.{eqb, ltb}
 use lib.ListN.{length}
 use Rattle.base_words.specs.Choice.{if_then_else_}
-use Rattle.text_line.specs.Night.{Night, Room, blank}
-use Rattle.text_line.specs.Lines.{LineCame, bad, good, readLine}
+use Rattle.base_places.specs.Places.{mostInLine}
+use Rattle.text_line.specs.Night.{Night, blank}
+use Rattle.text_line.specs.Lines.{LineCame, bad, good, inContact, readLine}
+use Rattle.text_fields.specs.declared.Cells.{Cells}
 
 -- the line so far, its number from 1, and what the lines before it said; or the first bad line and its reason
 pub data Text : Type 0 where
@@ -19,31 +20,28 @@ unfoldable pub lineEnded : ℕ → LineCame → Text
 lineEnded n (good t) = reading [] (n + 1) t
 lineEnded n (bad reason) = refused n reason
 
--- one byte more: byte 10 ends the line; any other belongs to it, and is reason 1 past the 160th; "first bad line only"
-unfoldable pub feed : Room → Text → ℕ → Text
+-- one byte more: byte 10 ends the line; any other belongs to it, and is reason 1 past so many; "first bad line only"
+unfoldable pub feed : Cells → Text → ℕ → Text
 feed room (reading line n t) b =
     if eqb b 10 then lineEnded n (readLine room t line)
-    else if ltb (length line) 160 then reading (line ++ (b ∷ [])) n t
+    else if ltb (length line) mostInLine then reading (line ++ (b ∷ [])) n t
     else refused n 1
 feed room (refused n reason) b = refused n reason
 
-unfoldable pub feeds : Room → Text → List ℕ → Text
+unfoldable pub feeds : Cells → Text → List ℕ → Text
 feeds room x [] = x
 feeds room x (b ∷ s) = feeds room (feed room x b) s
 
 -- "a contact cut short by the end counts here, at the line after the last"
-unfoldable pub cutShort : Night → Bool
-cutShort t = leb 1 (t .place) && leb (t .place) 4
-
 unfoldable pub wholeContacts : Text → Text
-wholeContacts (reading line n t) = if cutShort t then refused n 3 else reading line n t
+wholeContacts (reading line n t) = if inContact (t .place) then refused n 3 else reading line n t
 wholeContacts (refused n reason) = refused n reason
 
 -- the end of the text: what stands after the last byte 10, if anything, is a line too
-unfoldable pub closed : Room → Text → Text
+unfoldable pub closed : Cells → Text → Text
 closed room (reading line n t) =
     wholeContacts (if eqb (length line) 0 then reading [] n t else lineEnded n (readLine room t line))
 closed room (refused n reason) = refused n reason
 
-unfoldable pub textOf : Room → List ℕ → Text
+unfoldable pub textOf : Cells → List ℕ → Text
 textOf room s = closed room (feeds room (reading [] 1 blank) s)

@@ -1,9 +1,11 @@
 // A text, byte by byte and line by line.
+use base_places::MOST_IN_LINE;
 use text_line::LineRead;
+use text_line::Place;
 use text_line::State;
 ghost use mathlib.Core.Path.{_≡_};
-ghost use Prim.Native.Nat.{_<_};
-ghost use lib.ListN.{getD, length};
+ghost use Prim.Native.Nat.{_+_, _<_};
+ghost use lib.ListN.{length};
 ghost use Rattle.text_line.specs.Filled.{roomOf};
 ghost use Rattle.text_read.specs.Text.{closed, textOf};
 ghost use Rattle.text_read.specs.AtByte.{Feeds, Fine, ReadWhole, textAt, wholeEnd};
@@ -38,12 +40,9 @@ fn feed_byte(
     floats: &mut [u32],
     steps: &mut [u16],
 ) -> Fed
-    requires { ⌜ Fine k i (now bodies) (now numbers) (now floats) (now steps) × (i < length (now input)) ⌝ }
-    ensures { λ r. ⌜ Feeds (roomOf (now (bodies .entry)) (now (numbers .entry)) (now (floats .entry)) (now (steps .entry)))
-        (textAt k (now (input .entry)) i
-        (now (bodies .entry)) (now (numbers .entry)) (now (floats .entry)) (now (steps .entry)))
-        (getD (now (input .entry)) i 0) (now (input .entry)) i r
-        (now (bodies .exit)) (now (numbers .exit)) (now (floats .exit)) (now (steps .exit)) ⌝ }
+    requires { ⌜ Fine k (now input) i (now bodies) (now numbers) (now floats) (now steps) × (i < length (now input)) ⌝ }
+    ensures { λ r. ⌜ Feeds (roomOf (now (bodies .entry)) (now (numbers .entry)) (now (floats .entry)) (now (steps .entry))) r
+        (now (input .entry)) (i + 1) (now (bodies .exit)) (now (numbers .exit)) (now (floats .exit)) (now (steps .exit)) ⌝ }
 {
     let start = k.start;
     let number = k.number;
@@ -58,7 +57,7 @@ fn feed_byte(
             }),
             LineRead::Bad(reason) => Fed::Refused(number, reason),
         }
-    } else if i - start < 160 {
+    } else if i - start < MOST_IN_LINE {
         Fed::Next(k)
     } else {
         Fed::Refused(number, 1)
@@ -70,7 +69,7 @@ fn whole_contacts(st: State, number: usize) -> End
     ensures { λ r. ⌜ r ≡ wholeEnd st number ⌝ }
 {
     let place = st.place;
-    if (1 <= place) & (place <= 4) {
+    if text_line::in_contact(place) {
         End::Bad(number, 3)
     } else {
         End::Whole(st, number)
@@ -86,7 +85,7 @@ fn close_text(
     floats: &mut [u32],
     steps: &mut [u16],
 ) -> End
-    requires { ⌜ Fine k (length (now input)) (now bodies) (now numbers) (now floats) (now steps) ⌝ }
+    requires { ⌜ Fine k (now input) (length (now input)) (now bodies) (now numbers) (now floats) (now steps) ⌝ }
     ensures { λ r. ⌜ ReadWhole
         (closed (roomOf (now (bodies .entry)) (now (numbers .entry)) (now (floats .entry)) (now (steps .entry)))
         (textAt k (now (input .entry)) (length (now (input .entry)))
@@ -121,7 +120,7 @@ pub fn read_text(
 {
     let mut k = Cursor {
         st: State {
-            place: 0,
+            place: Place::Bodies,
             bodies: 0,
             numbers: 0,
             floats: 0,

@@ -5,6 +5,7 @@ use native.Mathlib.Nat.{le-refl}
 use native.Mathlib.Omega.{arith}
 use mathlib.Core.Bool.{Bool, true, false}
 use mathlib.Core.Path.{_≡_, refl, _∙_, ap}
+use Rattle.base_places.specs.Places.{bodyWidth}
 use Rattle.base_rows.specs.Rows.{row}
 use Rattle.list_tables.specs.Tables.{stepAt}
 use Rattle.list_tables.specs.declared.Step.{Step}
@@ -31,7 +32,7 @@ before-more lent n =
 
 -- a step that does not name body i, by the tables as lent, leaves its row, on all tables of their shape
 step-keeps : (s : Step) (i : ℕ) (lent now : Tables) → shape now ≡ shape lent → (Names lent s i → ⊥)
-    → row 3 i (stepOn s now .after .bodies) ≡ row 3 i (now .bodies)
+    → row bodyWidth i (stepOn s now .after .bodies) ≡ row bodyWidth i (now .bodies)
 step-keeps s i lent now same other =
     frame s now (body i) (ap (λ (sh : Shape). touches sh s (body i)) same ∙ by-case (touches (shape lent) s (body i)) refl)
   where
@@ -44,7 +45,7 @@ module _ (lent : Lent) (budget : ℕ) (e : Ended) (so : Demand2 lent budget e) (
   -- so far the tables have the shape that they had as lent, and body i its row
   record Stays (now : Tables) : Type 0 where
     same : shape now ≡ shape (lent .tables)
-    there : row 3 i (now .bodies) ≡ row 3 i (lent .tables .bodies)
+    there : row bodyWidth i (now .bodies) ≡ row bodyWidth i (lent .tables .bodies)
 
   demands : Demand1 lent budget e
   demands = demand1 lent budget e so
@@ -62,10 +63,10 @@ module _ (lent : Lent) (budget : ℕ) (e : Ended) (so : Demand2 lent budget e) (
   so-far zero h = rw (before-none lent) (record { same = refl; there = refl })
   so-far (suc n) h = one-more n h (so-far n (omega arith)) (ℕ-discrete (numberOf n e) 0)
 
-  pub body-kept : row 3 i (e .tables .bodies) ≡ row 3 i (lent .tables .bodies)
+  pub body-kept : row bodyWidth i (e .tables .bodies) ≡ row bodyWidth i (lent .tables .bodies)
   unfolding nothingDone
   body-kept = by-case (ℕ-discrete (e .refusal) 0)
     where
-      by-case : Dec (e .refusal ≡ 0) → row 3 i (e .tables .bodies) ≡ row 3 i (lent .tables .bodies)
-      by-case (yes z) = ap (λ (t : Tables). row 3 i (t .bodies)) (demands .goes-on z .1) ∙ so-far (e .done) (le-refl (e .done)) .there
-      by-case (no nz) = ap (λ (x : Ended). row 3 i (x .tables .bodies)) (demands .refused-call nz)
+      by-case : Dec (e .refusal ≡ 0) → row bodyWidth i (e .tables .bodies) ≡ row bodyWidth i (lent .tables .bodies)
+      by-case (yes z) = ap (λ (t : Tables). row bodyWidth i (t .bodies)) (demands .goes-on z .1) ∙ so-far (e .done) (le-refl (e .done)) .there
+      by-case (no nz) = ap (λ (x : Ended). row bodyWidth i (x .tables .bodies)) (demands .refused-call nz)

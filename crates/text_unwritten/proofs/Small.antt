@@ -4,50 +4,46 @@ use mathlib.Core.Bool.{Bool, true, false, cond}
 use mathlib.Core.List.{List, [], _∷_, _++_}
 use mathlib.Core.Path.{_≡_, refl}
 use lib.Dec.{eqb, ltb}
-use lib.ListN.{length}
-use Rattle.text_digits.specs.Digits.{decOf, hexOf}
+use lib.ListN.{length, take}
+use Rattle.base_places.specs.Places.{mostInLine}
 use Rattle.text_digits.specs.declared.Number.{Number}
 use Rattle.text_digits.specs.declared.Number.the-variants.{Is, No}
-use Rattle.text_digits.proofs.Forms.{hex-small}
-use Rattle.text_fields.specs.Fields.{None, Nothing, Says, Taken, These, Values, ended, fields, onward, takes, thenBits, values}
-use Rattle.text_fields.specs.Letters.{afterLetter, decimals, floats, lineLetter, says}
+use Rattle.text_fields.specs.Fields.{None, Nothing, Says, Taken, These, Values, ended, fields, inForm, onward, takes, thenBits, values}
+use Rattle.text_fields.specs.Got.{Small, most}
+use Rattle.text_fields.specs.Letters.{adds, afterLetter, asked, lineLetter, says}
+use Rattle.text_fields.specs.declared.Form.the-variants.{Decimal, Hex}
 use Rattle.text_fields.specs.declared.Letter.{Letter}
-use Rattle.text_fields.specs.declared.Letter.the-variants.{Body, Contact, Normal, Tangent, Step, Other}
+use Rattle.text_fields.specs.declared.Letter.the-variants.{Other}
+use Rattle.text_fields.proofs.Small.{both-small, in-form-small, take-small}
 use Rattle.text_line.specs.Night.{Night, blank, ofProgram}
-use Rattle.text_line.specs.Lines.{LineCame, bad, filled, full, good, nextPlace, put, readLetter, readLine, unknown}
-use Rattle.text_read.specs.Text.{Text, closed, cutShort, feed, feeds, lineEnded, reading, refused, textOf, wholeContacts}
-
--- every number of a list fits
-abbrev pub Small : List ℕ → Type 0
-Small [] = Unit
-Small (n ∷ l) = (n ≤ 0xffff_ffff) × Small l
-
-both-small : (l m : List ℕ) → Small l → Small m → Small (l ++ m)
-both-small [] m h i = i
-both-small (n ∷ l) m h i = (h .0, both-small l m (h .1) i)
+use Rattle.text_line.specs.Lines.{LineCame, bad, filled, full, good, inContact, is, nextPlace, ordered, put, readLetter, readLine}
+use Rattle.text_line.specs.declared.Next.{Next}
+use Rattle.text_line.specs.declared.Next.the-variants.{To, OutOfOrder}
+use Rattle.text_line.specs.declared.Place.{Place}
+use Rattle.text_read.specs.Text.{Text, closed, feed, feeds, lineEnded, reading, refused, textOf, wholeContacts}
 
 -- the bits that fields say
 abbrev SmallTaken : Taken → Type 0
-SmallTaken (These l fs) = Small l
+SmallTaken (These l fs) = Small (most Hex) l
 SmallTaken None = Unit
 
-one-small : (f : List ℕ) (x : Number) → hexOf f ≡ x → (go-on : ℕ → Taken) → ((n : ℕ) → n ≤ 0xffff_ffff → SmallTaken (go-on n))
+one-small : (f : List ℕ) (x : Number) → inForm Hex f ≡ x → (go-on : ℕ → Taken) → ((n : ℕ) → n ≤ most Hex → SmallTaken (go-on n))
     → SmallTaken (onward x go-on)
 unfolding onward
-one-small f (Is n) e go-on later = later n (hex-small f n e)
+one-small f (Is n) e go-on later = later n (in-form-small Hex f n e)
 one-small f No e go-on later = tt
 
-takes-small : (k : ℕ) (got : List ℕ) (fs : List (List ℕ)) → Small got → SmallTaken (takes hexOf got k fs)
+takes-small : (k : ℕ) (l : List ℕ) (fs : List (List ℕ)) → Small (most Hex) l → SmallTaken (takes Hex l k fs)
 unfolding takes
-takes-small zero got fs h = h
-takes-small (suc k) got [] h = tt
-takes-small (suc k) got (f ∷ fs) h =
-    one-small f (hexOf f) refl (λ n. takes hexOf (got ++ (n ∷ [])) k fs)
-    (λ n i. takes-small k (got ++ (n ∷ [])) fs (both-small got (n ∷ []) h (i, tt)))
+takes-small zero l fs h = h
+takes-small (suc k) l [] h = tt
+takes-small (suc k) l (f ∷ fs) h =
+    one-small f (inForm Hex f) refl (λ n. takes Hex (l ++ (n ∷ [])) k fs)
+    (λ n i. takes-small k (l ++ (n ∷ [])) fs (both-small (most Hex) l (n ∷ []) h (i, tt)))
 
 -- the bits that a line says
 abbrev SmallValues : Values → Type 0
-SmallValues (Says numbers bits) = Small bits
+SmallValues (Says numbers bits) = Small (most Hex) bits
 SmallValues Nothing = Unit
 
 ended-small : (numbers : List ℕ) (x : Taken) → SmallTaken x → SmallValues (ended numbers x)
@@ -58,43 +54,40 @@ ended-small numbers None h = tt
 
 then-small : (k : ℕ) (x : Taken) → SmallValues (thenBits k x)
 unfolding thenBits
-then-small k (These numbers fs) = ended-small numbers (takes hexOf [] k fs) (takes-small k [] fs tt)
+then-small k (These numbers fs) = ended-small numbers (takes Hex [] k fs) (takes-small k [] fs tt)
 then-small k None = tt
 
 says-small : (l : Letter) (line : List ℕ) → SmallValues (says l line)
 unfolding says values
-says-small l line = then-small (floats l) (takes decOf [] (decimals l) (afterLetter (fields line)))
+says-small l line = then-small (asked Hex l) (takes Decimal [] (asked Decimal l) (afterLetter (fields line)))
 
 -- what has been read with a line
 abbrev SmallCame : LineCame → Type 0
-SmallCame (good t) = Small (t .bodies)
+SmallCame (good t) = Small (most Hex) (t .bodies)
 SmallCame (bad reason) = Unit
-
-put-small : (l : Letter) (numbers bits : List ℕ) (t : Night) → Small (t .bodies) → Small bits → Small (put l numbers bits t .bodies)
-unfolding put
-put-small Body numbers bits t h i = both-small (t .bodies) bits h i
-put-small Contact numbers bits t h i = h
-put-small Normal numbers bits t h i = h
-put-small Tangent numbers bits t h i = h
-put-small Step numbers bits t h i = h
-put-small Other numbers bits t h i = h
 
 -- a test may make the line bad
 or-bad : (test : Bool) (reason : ℕ) (x : LineCame) → SmallCame x → SmallCame (cond test (bad reason) x)
 or-bad true reason x h = tt
 or-bad false reason x h = h
 
-module _ (t : Night) (before : Small (t .bodies)) where
-  filled-small : (l : Letter) (v : Values) → SmallValues v → SmallCame (filled ofProgram l t v)
-  unfolding filled
-  filled-small l (Says numbers bits) h = or-bad (full ofProgram l t) 5 (good (put l numbers bits t)) (put-small l numbers bits t before h)
-  filled-small l Nothing h = tt
+module _ (t : Night) (before : Small (most Hex) (t .bodies)) where
+  filled-small : (l : Letter) (place : Place) (v : Values) → SmallValues v → SmallCame (filled ofProgram l place t v)
+  unfolding filled put
+  filled-small l place (Says numbers bits) h =
+      or-bad (full ofProgram l t) 5 (good (put l place numbers bits t))
+      (both-small (most Hex) (t .bodies) (take (adds l .bodies) bits) before (take-small (most Hex) (adds l .bodies) bits h))
+  filled-small l place Nothing h = tt
+
+  ordered-small : (l : Letter) (next : Next) (v : Values) → SmallValues v → SmallCame (ordered ofProgram l next t v)
+  unfolding ordered
+  ordered-small l (To place) v h = filled-small l place v h
+  ordered-small l OutOfOrder v h = tt
 
   letter-small : (l : Letter) (v : Values) → SmallValues v → SmallCame (readLetter ofProgram t l v)
   unfolding readLetter
   letter-small l v h =
-      or-bad (unknown l) 2 (cond (eqb (nextPlace l (t .place)) 7) (bad 3) (filled ofProgram l t v))
-      (or-bad (eqb (nextPlace l (t .place)) 7) 3 (filled ofProgram l t v) (filled-small l v h))
+      or-bad (is l Other) 2 (ordered ofProgram l (nextPlace l (t .place)) t v) (ordered-small l (nextPlace l (t .place)) v h)
 
   line-small : (line : List ℕ) → SmallCame (readLine ofProgram t line)
   unfolding readLine
@@ -102,7 +95,7 @@ module _ (t : Night) (before : Small (t .bodies)) where
 
 -- what the lines of a text said
 abbrev SmallText : Text → Type 0
-SmallText (reading line n t) = Small (t .bodies)
+SmallText (reading line n t) = Small (most Hex) (t .bodies)
 SmallText (refused n reason) = Unit
 
 -- a test decides between two texts
@@ -120,9 +113,9 @@ fed-small : (x : Text) (b : ℕ) → SmallText x → SmallText (feed ofProgram x
 unfolding feed
 fed-small (reading line n t) b h =
     either (eqb b 10) (lineEnded n (readLine ofProgram t line))
-    (cond (ltb (length line) 160) (reading (line ++ (b ∷ [])) n t) (refused n 1))
+    (cond (ltb (length line) mostInLine) (reading (line ++ (b ∷ [])) n t) (refused n 1))
     (ended-line n (readLine ofProgram t line) (line-small t h line))
-    (either (ltb (length line) 160) (reading (line ++ (b ∷ [])) n t) (refused n 1) h tt)
+    (either (ltb (length line) mostInLine) (reading (line ++ (b ∷ [])) n t) (refused n 1) h tt)
 fed-small (refused n reason) b h = tt
 
 feeds-small : (s : List ℕ) (x : Text) → SmallText x → SmallText (feeds ofProgram x s)
@@ -132,7 +125,7 @@ feeds-small (b ∷ s) x h = feeds-small s (feed ofProgram x b) (fed-small x b h)
 
 whole-small : (x : Text) → SmallText x → SmallText (wholeContacts x)
 unfolding wholeContacts
-whole-small (reading line n t) h = either (cutShort t) (refused n 3) (reading line n t) tt h
+whole-small (reading line n t) h = either (inContact (t .place)) (refused n 3) (reading line n t) tt h
 whole-small (refused n reason) h = tt
 
 closed-small : (x : Text) → SmallText x → SmallText (closed ofProgram x)
@@ -148,5 +141,5 @@ unfolding textOf blank
 text-small s = closed-small (feeds ofProgram (reading [] 1 blank) s) (feeds-small s (reading [] 1 blank) tt)
 
 -- the bits of the bodies of a text that was read to its end
-pub bodies-small : (s line : List ℕ) (n : ℕ) (t : Night) → textOf ofProgram s ≡ reading line n t → Small (t .bodies)
+pub bodies-small : (s line : List ℕ) (n : ℕ) (t : Night) → textOf ofProgram s ≡ reading line n t → Small (most Hex) (t .bodies)
 bodies-small s line n t e = rw e at (text-small s)

@@ -2,6 +2,7 @@
 use Prim.Native.Nat.{ℕ, _<_}
 use mathlib.Core.List.{List}
 use mathlib.Core.Path.{_≡_}
+use Rattle.base_places.specs.Places.{bodyWidth}
 use Rattle.base_rows.specs.Rows.{rows}
 use Rattle.list_tables.specs.Tables.{stepAt}
 use Rattle.list_sharing.specs.Sharing.{Names}
@@ -19,5 +20,5 @@ Unwritten t i =
 -- of a text that was read to its end, t being what it says: body i's B line is the line of the bits that were read
 abbrev pub BodiesAsRead : Type 0
 BodiesAsRead =
-    (s line : List ℕ) (n : ℕ) (t : Night) → textOf ofProgram s ≡ reading line n t → (i : ℕ) → i < rows 3 (t .bodies)
+    (s line : List ℕ) (n : ℕ) (t : Night) → textOf ofProgram s ≡ reading line n t → (i : ℕ) → i < rows bodyWidth (t .bodies)
     → Unwritten t i → bLine (prints (called t .tables .bodies) (t .bodies)) i ≡ bLine (t .bodies) i

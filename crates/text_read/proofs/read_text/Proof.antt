@@ -1,13 +1,10 @@
 use Prim.Native.Nat.{_-_, _≤_}
 use native.Mathlib.Omega.{arith}
-use mathlib.Core.List.{[]}
 use mathlib.Core.Path.{_≡_, refl}
 use lib.ListN.{length}
-use Rattle.text_line.specs.Night.{blank}
-use Rattle.text_line.specs.Filled.{roomOf}
-use Rattle.text_read.specs.Text.{feeds, reading}
 use Rattle.text_read.specs.AtByte.{Fine}
-use Rattle.text_read.proofs.Closing.{Left, begin, done, fine, over, stop, text-of, turn}
+use Rattle.text_read.proofs.Bytes.{begin}
+use Rattle.text_read.proofs.Closing.{at-end, fine, over, stop}
 use borrow.Author.Needs.{needs}
 use Rattle.text_read.proofs.read_text.Statement.{statement}
 use Rattle.text_read.proofs.read_text.Tie as tie
@@ -16,28 +13,13 @@ abbrev Inv-loop : tie.InvT-loop
 Inv-loop input bodies₀ numbers₀ floats₀ steps₀ k₀ i₀ bodies numbers floats steps k i =
     (i ≤ length input) × (length bodies ≡ length bodies₀) × (length numbers ≡ length numbers₀)
     × (length floats ≡ length floats₀) × (length steps ≡ length steps₀)
-    × Fine k i bodies numbers floats steps
-    × Left (roomOf bodies₀ numbers₀ floats₀ steps₀) k input i bodies numbers floats steps
-    (feeds (roomOf bodies₀ numbers₀ floats₀ steps₀) (reading [] 1 blank) input)
+    × Fine k input i bodies numbers floats steps
 
 abbrev μ-loop : tie.MeasureT-loop
 μ-loop input bodies₀ numbers₀ floats₀ steps₀ k₀ i₀ bodies numbers floats steps k i = length input - i
 
 loop-holds : tie.Need-loop-holds Inv-loop μ-loop
-loop-holds c = (
-  omega arith,
-  refl,
-  refl,
-  refl,
-  refl,
-  record {
-    sane = record { bodies-fit = omega arith; numbers-fit = omega arith; floats-fit = omega arith; steps-fit = omega arith };
-    start = omega arith;
-    short = omega arith;
-    number = omega arith;
-  },
-  begin _ _ _ _ _ _,
-)
+loop-holds c = (omega arith, refl, refl, refl, refl, begin _ _ _ _ _)
 
 feed-byte-requires : tie.Need-feed-byte-requires Inv-loop μ-loop
 feed-byte-requires c κs = search needs
@@ -61,7 +43,7 @@ same-length-4 : tie.Need-same-length-4 Inv-loop μ-loop
 same-length-4 c = search needs
 
 returns : tie.Need-returns Inv-loop μ-loop
-returns c = search (stop, text-of)
+returns c = search stop
 
 add-i : tie.Need-add-i Inv-loop μ-loop
 add-i c = search needs
@@ -70,22 +52,10 @@ loop-less : tie.Need-loop-less Inv-loop μ-loop
 loop-less c = search needs
 
 loop-again : tie.Need-loop-again Inv-loop μ-loop
-loop-again c =
-    let fed = c .before .before .before .before .before .before .before .before .before .before .before in
-    let test = fed .before .before .before .before .before in
-    let inv = test .before .loop .inv in
-    let next = c .before .fed .given .1 in (
-      omega arith,
-      search needs,
-      search needs,
-      search needs,
-      search needs,
-      search fine,
-      turn _ _ _ _ (inv .6) (inv .1) (inv .2) (inv .3) (inv .4) (test .loop-test .taken) (fed .feed-byte .ensures) _ next,
-    )
+loop-again c = (omega arith, search needs, search needs, search needs, search needs, search fine)
 
 close-text-requires : tie.Need-close-text-requires Inv-loop μ-loop
-close-text-requires c κs = search needs
+close-text-requires c κs = search at-end
 
 same-length-5 : tie.Need-same-length-5 Inv-loop μ-loop
 same-length-5 c = search needs
@@ -100,7 +70,7 @@ same-length-8 : tie.Need-same-length-8 Inv-loop μ-loop
 same-length-8 c = search needs
 
 returns-2 : tie.Need-returns-2 Inv-loop μ-loop
-returns-2 c = search (done, over, text-of)
+returns-2 c = search over
 
 pub read-text-spec : {M : Type 1} → statement M
 read-text-spec =
