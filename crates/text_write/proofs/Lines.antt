@@ -7,7 +7,7 @@ use mathlib.Core.List.{List, [], _∷_}
 use lib.ListN.{length}
 use Rattle.text_digits.specs.Digits.{decField, hexField}
 use Rattle.text_digits.specs.Wrote.{Wrote}
-use Rattle.text_digits.proofs.Then.{nothing, then}
+use Rattle.text_digits.proofs.Then.{then}
 use Rattle.text_write.specs.Lines.{each, joined, line}
 
 module _ {o : List ℕ} {at : ℕ} where
@@ -23,11 +23,6 @@ module _ {o : List ℕ} {at : ℕ} where
     pub from-start : {p : ℕ} → p ≡ min (length o) at → Wrote o at (each f 0) o p
     unfolding each
     from-start e = record { bytes = refl; place = omega (arith, e) }
-
-    -- no line yet, at a place in the buffer
-    pub from-here : at ≤ length o → Wrote o at (each f 0) o at
-    unfolding each
-    from-here h = nothing o at h
 
     pub line-more : {o1 o2 : List ℕ} {p q : ℕ} (i : ℕ) → Wrote o at (each f i) o1 p → Wrote o1 p (f i) o2 q
         → Wrote o at (each f (i + 1)) o2 q

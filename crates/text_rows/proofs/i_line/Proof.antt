@@ -25,26 +25,29 @@ part-row-start c = search needs
 part-row-end : tie.Need-part-row-end
 part-row-end c = search needs
 
-mul-t9 : tie.Need-mul-t9
-mul-t9 c = search needs
+mul-place : tie.Need-mul-place
+mul-place c = search needs
 
-add-t14 : tie.Need-add-t14
-add-t14 c = search needs
+add-place : tie.Need-add-place
+add-place c = search needs
 
-mul-t12 : tie.Need-mul-t12
-mul-t12 c = search needs
+add-t15 : tie.Need-add-t15
+add-t15 c = search needs
 
-shared-slice-read-t17 : tie.Need-shared-slice-read-t17
-shared-slice-read-t17 c = search needs
+mul-t10 : tie.Need-mul-t10
+mul-t10 c = search needs
+
+shared-slice-read-t18 : tie.Need-shared-slice-read-t18
+shared-slice-read-t18 c = search needs
+
+add-t13 : tie.Need-add-t13
+add-t13 c = search needs
+
+add-t12 : tie.Need-add-t12
+add-t12 c = search needs
 
 mul-t11 : tie.Need-mul-t11
 mul-t11 c = search needs
-
-add-t10 : tie.Need-add-t10
-add-t10 c = search needs
-
-mul-t18 : tie.Need-mul-t18
-mul-t18 c = search needs
 
 shared-slice-read-t20 : tie.Need-shared-slice-read-t20
 shared-slice-read-t20 c = search needs
@@ -75,13 +78,14 @@ i-line-spec =
     sub-row
     part-row-start
     part-row-end
-    mul-t9
-    add-t14
-    mul-t12
-    shared-slice-read-t17
+    mul-place
+    add-place
+    add-t15
+    mul-t10
+    shared-slice-read-t18
+    add-t13
+    add-t12
     mul-t11
-    add-t10
-    mul-t18
     shared-slice-read-t20
     slice-aggregate-put-line
     slice-aggregate-put-line-2

@@ -1,5 +1,4 @@
 -- `text_write::e_line` meets its contract. A line of numbers. Assumes nothing.
-use Rattle.text_write.specs.Lines.{eLine}
 use borrow.Author.Needs.{needs}
 use Rattle.text_write.proofs.e_line.Statement.{statement}
 use Rattle.text_write.proofs.e_line.Tie as tie
@@ -14,7 +13,6 @@ same-length : tie.Need-same-length
 same-length c = search needs
 
 returns : tie.Need-returns
-unfolding eLine
 returns c = search needs
 
 pub e-line-spec : {M : Type 1} → statement M
