@@ -5,14 +5,14 @@ use native.Mathlib.Omega.{arith}
 use borrow.Author.Tests.{leb-true}
 use mathlib.Core.Bool.{Bool, true, false, _&&_}
 use mathlib.Core.List.{List, [], _∷_}
-use mathlib.Core.Path.{_≡_, refl, _∙_}
+use mathlib.Core.Path.{_≡_, refl}
 use lib.Dec.{leb, ltb}
-use lib.ListN.{drop, getD}
-use lib.Seq.{getD-drop, getD-take}
+use lib.ListN.{getD}
 use Rattle.base_words.specs.Choice.{if_then_else_}
 use Rattle.base_words.proofs.Said.{all-l, all-r}
 use Rattle.base_refusals.specs.Refusals.{Condition, first}
-use Rattle.base_rows.specs.Rows.{part, row, rows}
+use Rattle.base_rows.specs.Rows.{row, rows}
+use Rattle.base_rows.proofs.Parts.{part-at}
 use Rattle.step_contact.specs.declared.Contact.{Contact}
 use Rattle.step_rules.specs.Step.{asked, branch, checks, conditions, step}
 use Rattle.step_rules.specs.declared.Outcome.{Outcome}
@@ -69,9 +69,7 @@ row-few s t (suc (suc k)) = omega arith
 
 pub told-few : (steps : List ℕ) (t : Tables) (room : List ℕ) (n : ℕ) → n ≤ rows 2 room → (j : ℕ) → j < n * 2
     → getD (sweep steps n t room .room) j 0 ≤ 10
-unfolding part
 told-few steps t room n fits j h =
     let all = sweep steps n t room .room in
-    let at : getD (row 2 (j / 2) all) (j % 2) 0 ≡ getD all (j / 2 * 2 + j % 2) 0 =
-    getD-take 2 (drop (j / 2 * 2) all) (j % 2) 0 (omega arith) ∙ getD-drop (j / 2 * 2) all (j % 2) 0 in
+    let at : getD (row 2 (j / 2) all) (j % 2) 0 ≡ getD all (j / 2 * 2 + j % 2) 0 = part-at (j / 2 * 2) 2 all (j % 2) 0 (omega arith) in
     rw (← div-add-mod' j 2, ← at, answer-row steps t room n (j / 2) (omega arith) fits) (row-few _ _ (j % 2))

@@ -6,10 +6,10 @@ use mathlib.Core.Bool.{Bool, true, false}
 use mathlib.Core.List.{List, []}
 use lib.Dec.{ltb}
 use lib.ListN.{drop, getD, length, length-drop, length-take, List·getD-eq-default}
-use lib.Seq.{getD-drop, getD-take}
 use Rattle.base_words.specs.Choice.{if_then_else_}
 use Rattle.base_places.specs.Places.{answerWidth, bodyWidth, floatsWidth, lineBytes}
 use Rattle.base_rows.specs.Rows.{part, row, rows}
+use Rattle.base_rows.proofs.Parts.{part-at}
 use Rattle.text_write.proofs.Lengths.{Small, each-length, short-line, two-small}
 use Rattle.text_rows.specs.Tables.{Shown, aLine, bLine, iLine, listing, pointLine, pointsOf}
 use Rattle.text_rows.specs.declared.Listed.the-variants.{Answers, Bodies, Loads}
@@ -20,7 +20,7 @@ unfolding part
 part-small a n l h i = side (decLt i n)
   where
     side : Dec (i < n) → getD (part a n l) i 0 < 65536
-    side (yes k) = rw (getD-take n (drop a l) i 0 k, getD-drop a l i 0) (h _)
+    side (yes k) = rw (part-at a n l i 0 k) (h _)
     side (no k) = rw (List·getD-eq-default (part a n l) 0 {n = i} (simp (length-take, length-drop) (omega arith))) (omega arith)
 
 part-short : (a n : ℕ) (l : List ℕ) → length (part a n l) ≤ n
