@@ -8,7 +8,7 @@ use Rattle.text_fields.specs.Letters.{letterIn, letterOf, lineLetter}
 use Rattle.text_line.specs.Lines.{readLetter, readLine}
 use Rattle.text_line.specs.Night.{ofProgram}
 use Rattle.text_read.specs.Text.{closed, feed, feeds, lineEnded, refused, textOf}
-use Rattle.text_write.specs.Lines.{joined, line, xLine}
+use Rattle.text_write.specs.Lines.{joined, line}
 use Rattle.text_output.specs.Output.{output, outputOf}
 use Rattle.replay_days.specs.Judged.{
   compared,
@@ -32,7 +32,7 @@ unfolding textOf closed feeds feed lineEnded readLine readLetter lineLetter lett
 read = refl
 
 its-output : output (65 ∷ 10 ∷ []) ≡ itsOutput
-unfolding output outputOf xLine line joined decField decBytes decDigits glyph
+unfolding output outputOf line joined decField decBytes decDigits glyph
 its-output = ap outputOf read
 
 -- what is said of a day with that night
