@@ -69,7 +69,12 @@ fn replay_some(
 }
 
 // The end of the file.
-fn replay_end(j: Judge, input: &mut [u8; HELD], out: &mut [u8; LONGEST_OUTPUT], told: &mut [u8; TOLD]) {
+fn replay_end(
+    j: Judge,
+    input: &mut [u8; HELD],
+    out: &mut [u8; LONGEST_OUTPUT],
+    told: &mut [u8; TOLD],
+) {
     let k = judge_end(j, input, out, &mut *told);
     write_out(&*told, k);
 }

@@ -54,7 +54,12 @@ fn one_less(n: usize) -> usize
 
 // A line ended in a day's input: the D, after which the output of what is held before it is there to compare with, or
 // one line more.
-fn end_input(line: LineSoFar, n: usize, input: &mut [u8; HELD], out: &mut [u8; LONGEST_OUTPUT]) -> Part
+fn end_input(
+    line: LineSoFar,
+    n: usize,
+    input: &mut [u8; HELD],
+    out: &mut [u8; LONGEST_OUTPUT],
+) -> Part
     ensures { λ r. ⌜ EndsInput line n (now (input .entry)) (now (out .entry)) r (now (input .exit)) (now (out .exit)) ⌝ }
 {
     if holds_only(line, 68) {

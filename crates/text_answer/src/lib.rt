@@ -93,10 +93,10 @@ fn write_lines(
     let done = report.done;
     let refused = report.refused;
     let told = answers_of(room, done);
-    let after_a = list(Listed::Answers, &mut *out, 0, told, bodies, numbers, floats);
-    let after_b = list(Listed::Bodies, &mut *out, after_a, told, bodies, numbers, floats);
-    let after_i = list(Listed::Loads, &mut *out, after_b, told, bodies, numbers, floats);
-    text_write::e_line(out, after_i, done, refused)
+    let a = list(Listed::Answers, &mut *out, 0, told, bodies, numbers, floats);
+    let b = list(Listed::Bodies, &mut *out, a, told, bodies, numbers, floats);
+    let i = list(Listed::Loads, &mut *out, b, told, bodies, numbers, floats);
+    text_write::e_line(out, i, done, refused)
 }
 
 // What is written of a night after its call, which left these floats and this room.

@@ -55,8 +55,13 @@ module _ (done refusals : ℕ) (x : Shown) where
         length-append (listing Answers x ++ listing Bodies x) (listing Loads x),
         length-append (listing Answers x) (listing Bodies x),
       )
-      (omega (arith, answers-length x small, bodies-length x, loads-length x (omega arith),
-        e-line-length done refusals (omega arith) (omega arith)))
+      (omega (
+        arith,
+        answers-length x small,
+        bodies-length x,
+        loads-length x (omega arith),
+        e-line-length done refusals (omega arith) (omega arith),
+      ))
 
 -- what is told of the answers are numbers of the text form
 told-small : (e : Ended) → FewTold e → Small (take (e .done * 2) (e .room))
