@@ -118,7 +118,7 @@ fn write_ended(
 {
     let refusal = report.refusal;
     if refusal != 0 {
-        return text_write::r_line(out, 0, refusal as usize);
+        return text_write::r_line(out, 0, refusal);
     }
     print_bits(body_values, &mut *bodies);
     print_bits(contact_values, &mut *floats);

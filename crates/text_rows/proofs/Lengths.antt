@@ -30,28 +30,32 @@ part-short a n l = omega (arith, length-take n (drop a l))
 module _ (x : Shown) where
   pub answers-length : Small (x .told) → length (listing Answers x) ≤ rows answerWidth (x .told) * lineBytes answerWidth 0
   unfolding listing aLine
-  answers-length h = each-length (aLine (x .told)) 14 (rows answerWidth (x .told)) one
+  answers-length h = each-length (aLine (x .told)) (lineBytes answerWidth 0) (rows answerWidth (x .told)) one
     where
-      one : (i : ℕ) → i < rows answerWidth (x .told) → length (aLine (x .told) i) ≤ 14
+      one : (i : ℕ) → i < rows answerWidth (x .told) → length (aLine (x .told) i) ≤ lineBytes answerWidth 0
       one i there =
           let its : List ℕ = row answerWidth i (x .told) in
-          omega (arith, short-line 65 its [] (part-small (i * 2) 2 (x .told) h), part-short (i * 2) 2 (x .told))
+          omega (
+            arith,
+            short-line 65 its [] (part-small (i * answerWidth) answerWidth (x .told) h),
+            part-short (i * answerWidth) answerWidth (x .told),
+          )
 
   pub bodies-length : length (listing Bodies x) ≤ rows bodyWidth (x .bodies) * lineBytes 0 bodyWidth
   unfolding listing bLine
-  bodies-length = each-length (bLine (x .bodies)) 29 (rows bodyWidth (x .bodies)) one
+  bodies-length = each-length (bLine (x .bodies)) (lineBytes 0 bodyWidth) (rows bodyWidth (x .bodies)) one
     where
-      one : (i : ℕ) → i < rows bodyWidth (x .bodies) → length (bLine (x .bodies) i) ≤ 29
+      one : (i : ℕ) → i < rows bodyWidth (x .bodies) → length (bLine (x .bodies) i) ≤ lineBytes 0 bodyWidth
       one i there =
-          omega (arith, short-line 66 [] (row bodyWidth i (x .bodies)) (λ i. omega arith), part-short (i * 3) 3 (x .bodies))
+          omega (arith, short-line 66 [] (row bodyWidth i (x .bodies)) (λ i. omega arith), part-short (i * bodyWidth) bodyWidth (x .bodies))
 
   pub loads-length : rows floatsWidth (x .floats) ≤ 65536 → length (listing Loads x) ≤ rows floatsWidth (x .floats) * 2 * lineBytes 2 2
   unfolding listing pointLine iLine
-  loads-length few = each-length (pointLine (x .numbers) (x .floats)) 32 (rows floatsWidth (x .floats) * 2) one
+  loads-length few = each-length (pointLine (x .numbers) (x .floats)) (lineBytes 2 2) (rows floatsWidth (x .floats) * 2) one
     where
-      side : (j : ℕ) (t : Bool) → j / 2 < 65536 → length (if t then iLine (x .floats) (j / 2) (j % 2) else []) ≤ 32
+      side : (j : ℕ) (t : Bool) → j / 2 < 65536 → length (if t then iLine (x .floats) (j / 2) (j % 2) else []) ≤ lineBytes 2 2
       side j true h = short-line 73 _ _ (two-small (j / 2) (j % 2) h (omega arith))
       side j false h = omega arith
 
-      one : (j : ℕ) → j < rows floatsWidth (x .floats) * 2 → length (pointLine (x .numbers) (x .floats) j) ≤ 32
+      one : (j : ℕ) → j < rows floatsWidth (x .floats) * 2 → length (pointLine (x .numbers) (x .floats) j) ≤ lineBytes 2 2
       one j there = side j (ltb (j % 2) (pointsOf (x .numbers) (j / 2))) (omega arith)

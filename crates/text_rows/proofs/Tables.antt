@@ -14,8 +14,6 @@ use Rattle.base_places.specs.declared.Cell.the-variants.{NormalImpulse, Tangent
 use Rattle.text_digits.specs.Wrote.{Wrote}
 use Rattle.text_digits.proofs.Then.{nothing}
 use Rattle.base_rows.specs.Rows.{part, row, rows}
-use Rattle.base_rows.proofs.Laws.{row-fits}
-use Rattle.base_rows.proofs.Parts.{length-part}
 use Rattle.base_rows.proofs.Lent.{between}
 use Rattle.text_write.specs.Lines.{line}
 use Rattle.text_rows.specs.Tables.{aLine, bLine, iLine, pointLine, pointsOf}
@@ -24,25 +22,14 @@ use Rattle.text_rows.specs.Tables.{aLine, bLine, iLine, pointLine, point
 abbrev lent : ℕ → ℕ → List ℕ → List ℕ
 lent n k l = take (k * n + n - k * n) (drop (k * n) l)
 
--- a row of two numbers is these
-both-cells : (l : List ℕ) → length l ≡ answerWidth → getD l 0 0 ∷ getD l 1 0 ∷ [] ≡ l
-both-cells (a ∷ b ∷ []) e = refl
-both-cells [] e = absurd (omega arith)
-both-cells (a ∷ []) e = absurd (omega arith)
-both-cells (a ∷ b ∷ c ∷ l) e = absurd (omega arith)
-
 module _ {o o′ : List ℕ} {at r : ℕ} where
-  pub a-written : (told : List ℕ) (i : ℕ) → i < rows answerWidth told
-      → Wrote o at (line 65 (getD (lent answerWidth i told) 0 0 ∷ getD (lent answerWidth i told) 1 0 ∷ []) []) o′ r
-      → Wrote o at (aLine told i) o′ r
+  pub a-written : (told : List ℕ) (i : ℕ) → Wrote o at (line 65 (lent answerWidth i told) []) o′ r → Wrote o at (aLine told i) o′ r
   unfolding aLine
-  a-written told i h v =
-      let long : length (row answerWidth i told) ≡ answerWidth = length-part (i * 2) 2 told (row-fits 2 i (λ l. l) told h) in
-      rw (← both-cells (row answerWidth i told) long) (rw (between (i * 2) 2 told) at v)
+  a-written told i v = rw (between (i * answerWidth) answerWidth told) at v
 
   pub b-written : (bodies : List ℕ) (i : ℕ) → Wrote o at (line 66 [] (lent bodyWidth i bodies)) o′ r → Wrote o at (bLine bodies i) o′ r
   unfolding bLine
-  b-written bodies i v = rw (between (i * 3) 3 bodies) at v
+  b-written bodies i v = rw (between (i * bodyWidth) bodyWidth bodies) at v
 
   pub i-written : (floats : List ℕ) (k p : ℕ)
       → Wrote o at
@@ -53,7 +40,7 @@ module _ {o o′ : List ℕ} {at r : ℕ} where
       o′ r
       → Wrote o at (iLine floats k p) o′ r
   unfolding iLine
-  i-written floats k p v = rw (between (k * 45) 45 floats) at v
+  i-written floats k p v = rw (between (k * floatsWidth) floatsWidth floats) at v
 
   -- a point below count has a line, any other has none
   pub point-written : (numbers floats : List ℕ) (j : ℕ) {n : ℕ} → n ≡ pointsOf numbers (j / 2) → j % 2 < n
@@ -69,19 +56,19 @@ no-point numbers floats j {o} {at} e h fits = rw (le-ltb (j % 2) (pointsOf numbe
 module _ (numbers : List ℕ) (k : ℕ) where
   pub one-point : getD (lent numbersWidth k numbers) 2 0 ≡ 1 → 1 ≡ pointsOf numbers k
   unfolding pointsOf
-  one-point e = rw (rw (between (k * 3) 3 numbers) at e)
+  one-point e = rw (rw (between (k * numbersWidth) numbersWidth numbers) at e)
 
   pub two-points : getD (lent numbersWidth k numbers) 2 0 ≡ 2 → 2 ≡ pointsOf numbers k
   unfolding pointsOf
-  two-points e = rw (rw (between (k * 3) 3 numbers) at e)
+  two-points e = rw (rw (between (k * numbersWidth) numbersWidth numbers) at e)
 
   pub no-points : (getD (lent numbersWidth k numbers) 2 0 ≡ 1 → ⊥) → (getD (lent numbersWidth k numbers) 2 0 ≡ 2 → ⊥) → 0 ≡ pointsOf numbers k
   unfolding pointsOf
-  no-points p q = rw (← between (k * 3) 3 numbers, ne-eqb _ 1 p, ne-eqb _ 2 q)
+  no-points p q = rw (← between (k * numbersWidth) numbersWidth numbers, ne-eqb _ 1 p, ne-eqb _ 2 q)
 
   -- past the last row the count is read as 0
   pub no-row : rows numbersWidth numbers ≤ k → 0 ≡ pointsOf numbers k
   unfolding pointsOf part
   no-row h =
-      let e : getD (row 3 k numbers) 2 0 ≡ 0 = List·getD-eq-default (row 3 k numbers) 0 (simp (length-take, length-drop) (omega arith)) in
+      let e : getD (row numbersWidth k numbers) 2 0 ≡ 0 = List·getD-eq-default (row numbersWidth k numbers) 0 (simp (length-take, length-drop) (omega arith)) in
       rw e

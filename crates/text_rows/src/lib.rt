@@ -28,9 +28,14 @@ fn a_line(out: &mut [u8], at: usize, told: &[u16], i: usize) -> usize
     requires { ⌜ i < rows answerWidth (now told) ⌝ }
     ensures { λ r. ⌜ Wrote (now (out .entry)) at (aLine (now (told .entry)) i) (now (out .exit)) r ⌝ }
 {
-    let row = &told[i * ANSWER_WIDTH..i * ANSWER_WIDTH + ANSWER_WIDTH];
-    let numbers = [row[0] as usize, row[1] as usize];
-    text_write::numbers_line(out, at, 65, &numbers)
+    let none = [0u32; 1];
+    text_write::row_line(
+        out,
+        at,
+        65,
+        &told[i * ANSWER_WIDTH..i * ANSWER_WIDTH + ANSWER_WIDTH],
+        &none[..0],
+    )
 }
 
 // Body i.
@@ -38,8 +43,8 @@ fn b_line(out: &mut [u8], at: usize, bodies: &[u32], i: usize) -> usize
     requires { ⌜ i < rows bodyWidth (now bodies) ⌝ }
     ensures { λ r. ⌜ Wrote (now (out .entry)) at (bLine (now (bodies .entry)) i) (now (out .exit)) r ⌝ }
 {
-    let none = [0usize; 1];
-    text_write::put_line(
+    let none = [0u16; 1];
+    text_write::row_line(
         out,
         at,
         66,
@@ -54,10 +59,9 @@ fn i_line(out: &mut [u8], at: usize, floats: &[u32], k: usize, point: usize) -> 
     ensures { λ r. ⌜ Wrote (now (out .entry)) at (iLine (now (floats .entry)) k point) (now (out .exit)) r ⌝ }
 {
     let row = &floats[k * FLOATS_WIDTH..k * FLOATS_WIDTH + FLOATS_WIDTH];
-    let numbers = [k, point];
     let place = HEAD_WIDTH + point * POINT_WIDTH;
     let loads = [row[place + IMPULSE], row[place + (NORMAL_WIDTH + IMPULSE)]];
-    text_write::put_line(out, at, 73, &numbers, &loads)
+    text_write::pair_line(out, at, 73, k, point, &loads)
 }
 
 // How many points of contact k have a line.

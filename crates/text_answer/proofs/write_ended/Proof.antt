@@ -4,9 +4,6 @@ use borrow.Author.Needs.{needs}
 use Rattle.text_answer.proofs.write_ended.Statement.{statement}
 use Rattle.text_answer.proofs.write_ended.Tie as tie
 
-cast-r-line : tie.Need-cast-r-line
-cast-r-line c = search needs
-
 r-line-requires : tie.Need-r-line-requires
 r-line-requires c κs = search needs
 
@@ -41,7 +38,6 @@ pub write-ended-spec : {M : Type 1} → statement M
 write-ended-spec =
     tie.close
     (tie.spec
-    cast-r-line
     r-line-requires
     same-length
     returns

@@ -1,48 +1,38 @@
 -- `text_rows::a_line` meets its contract. The row, as it is lent. Assumes nothing.
-use native.Mathlib.Omega.{arith}
 use Rattle.text_rows.proofs.Tables.{a-written}
 use borrow.Author.Needs.{needs}
 use Rattle.text_rows.proofs.a_line.Statement.{statement}
 use Rattle.text_rows.proofs.a_line.Tie as tie
 
-mul-row : tie.Need-mul-row
-mul-row c = search needs
+mul-row-line : tie.Need-mul-row-line
+mul-row-line c = search needs
 
-mul-row-2 : tie.Need-mul-row-2
-mul-row-2 c = search needs
+mul-row-line-2 : tie.Need-mul-row-line-2
+mul-row-line-2 c = search needs
 
-add-row : tie.Need-add-row
-add-row c = search needs
+add-row-line : tie.Need-add-row-line
+add-row-line c = search needs
 
-mul-row-3 : tie.Need-mul-row-3
-mul-row-3 c = search needs
+mul-row-line-3 : tie.Need-mul-row-line-3
+mul-row-line-3 c = search needs
 
-sub-row : tie.Need-sub-row
-sub-row c = search needs
+sub-row-line : tie.Need-sub-row-line
+sub-row-line c = search needs
 
-part-row-start : tie.Need-part-row-start
-part-row-start c = search needs
+part-row-line-start : tie.Need-part-row-line-start
+part-row-line-start c = search needs
 
-part-row-end : tie.Need-part-row-end
-part-row-end c = search needs
+part-row-line-end : tie.Need-part-row-line-end
+part-row-line-end c = search needs
 
-shared-slice-read-t15 : tie.Need-shared-slice-read-t15
-shared-slice-read-t15 c = search needs
+array-share-prefix-none : tie.Need-array-share-prefix-none
+array-share-prefix-none c = search needs
 
-cast-t7 : tie.Need-cast-t7
-cast-t7 c = omega (arith, c .shared-slice-known2 .given 0, c .shared-slice-known2 .given 1)
+slice-aggregate-row-line : tie.Need-slice-aggregate-row-line
+slice-aggregate-row-line c = search needs
 
-shared-slice-read-t17 : tie.Need-shared-slice-read-t17
-shared-slice-read-t17 c = search needs
-
-cast-t12 : tie.Need-cast-t12
-cast-t12 c = omega (arith, c .shared-slice-known3 .given 0, c .shared-slice-known3 .given 1)
-
-slice-aggregate-numbers-line : tie.Need-slice-aggregate-numbers-line
-slice-aggregate-numbers-line c = search needs
-
-numbers-line-requires : tie.Need-numbers-line-requires
-numbers-line-requires c κs = search needs
+row-line-requires : tie.Need-row-line-requires
+row-line-requires c κs = search needs
 
 same-length : tie.Need-same-length
 same-length c = search needs
@@ -54,18 +44,15 @@ pub a-line-spec : {M : Type 1} → statement M
 a-line-spec =
     tie.close
     (tie.spec
-    mul-row
-    mul-row-2
-    add-row
-    mul-row-3
-    sub-row
-    part-row-start
-    part-row-end
-    shared-slice-read-t15
-    cast-t7
-    shared-slice-read-t17
-    cast-t12
-    slice-aggregate-numbers-line
-    numbers-line-requires
+    mul-row-line
+    mul-row-line-2
+    add-row-line
+    mul-row-line-3
+    sub-row-line
+    part-row-line-start
+    part-row-line-end
+    array-share-prefix-none
+    slice-aggregate-row-line
+    row-line-requires
     same-length
     returns)

@@ -7,32 +7,32 @@ use Rattle.text_rows.proofs.b_line.Tie as tie
 array-share-prefix-none : tie.Need-array-share-prefix-none
 array-share-prefix-none c = search needs
 
-slice-aggregate-put-line : tie.Need-slice-aggregate-put-line
-slice-aggregate-put-line c = search needs
+slice-aggregate-row-line : tie.Need-slice-aggregate-row-line
+slice-aggregate-row-line c = search needs
 
-mul-put-line : tie.Need-mul-put-line
-mul-put-line c = search needs
+mul-row-line : tie.Need-mul-row-line
+mul-row-line c = search needs
 
-mul-put-line-2 : tie.Need-mul-put-line-2
-mul-put-line-2 c = search needs
+mul-row-line-2 : tie.Need-mul-row-line-2
+mul-row-line-2 c = search needs
 
-add-put-line : tie.Need-add-put-line
-add-put-line c = search needs
+add-row-line : tie.Need-add-row-line
+add-row-line c = search needs
 
-mul-put-line-3 : tie.Need-mul-put-line-3
-mul-put-line-3 c = search needs
+mul-row-line-3 : tie.Need-mul-row-line-3
+mul-row-line-3 c = search needs
 
-sub-put-line : tie.Need-sub-put-line
-sub-put-line c = search needs
+sub-row-line : tie.Need-sub-row-line
+sub-row-line c = search needs
 
-part-put-line-start : tie.Need-part-put-line-start
-part-put-line-start c = search needs
+part-row-line-start : tie.Need-part-row-line-start
+part-row-line-start c = search needs
 
-part-put-line-end : tie.Need-part-put-line-end
-part-put-line-end c = search needs
+part-row-line-end : tie.Need-part-row-line-end
+part-row-line-end c = search needs
 
-put-line-requires : tie.Need-put-line-requires
-put-line-requires c κs = search needs
+row-line-requires : tie.Need-row-line-requires
+row-line-requires c κs = search needs
 
 same-length : tie.Need-same-length
 same-length c = search needs
@@ -45,14 +45,14 @@ b-line-spec =
     tie.close
     (tie.spec
     array-share-prefix-none
-    slice-aggregate-put-line
-    mul-put-line
-    mul-put-line-2
-    add-put-line
-    mul-put-line-3
-    sub-put-line
-    part-put-line-start
-    part-put-line-end
-    put-line-requires
+    slice-aggregate-row-line
+    mul-row-line
+    mul-row-line-2
+    add-row-line
+    mul-row-line-3
+    sub-row-line
+    part-row-line-start
+    part-row-line-end
+    row-line-requires
     same-length
     returns)

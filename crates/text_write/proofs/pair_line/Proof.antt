@@ -1,14 +1,14 @@
--- `text_write::put_line` meets its contract. Field after field. Assumes nothing.
+-- `text_write::pair_line` meets its contract. Field after field. Assumes nothing.
 use Rattle.text_write.proofs.Lines.{line-written}
 use borrow.Author.Needs.{needs}
-use Rattle.text_write.proofs.put_line.Statement.{statement}
-use Rattle.text_write.proofs.put_line.Tie as tie
+use Rattle.text_write.proofs.pair_line.Statement.{statement}
+use Rattle.text_write.proofs.pair_line.Tie as tie
 
 put-requires : tie.Need-put-requires
 put-requires c κs = search needs
 
-dec-fields-requires : tie.Need-dec-fields-requires
-dec-fields-requires c κs = search needs
+two-fields-requires : tie.Need-two-fields-requires
+two-fields-requires c κs = search needs
 
 hex-fields-requires : tie.Need-hex-fields-requires
 hex-fields-requires c κs = search needs
@@ -22,12 +22,12 @@ same-length c = search needs
 returns : tie.Need-returns
 returns c = search line-written
 
-pub put-line-spec : {M : Type 1} → statement M
-put-line-spec =
+pub pair-line-spec : {M : Type 1} → statement M
+pair-line-spec =
     tie.close
     (tie.spec
     put-requires
-    dec-fields-requires
+    two-fields-requires
     hex-fields-requires
     put-requires-2
     same-length
