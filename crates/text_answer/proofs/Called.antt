@@ -20,7 +20,7 @@ use Rattle.text_line.specs.Filled.{nightOf}
 use Rattle.text_line.specs.Night.{Night}
 use Rattle.text_line.specs.declared.State.{State}
 use Rattle.text_write.specs.Lines.{eLine, rLine}
-use Rattle.text_rows.specs.Tables.{listing, shown}
+use Rattle.text_rows.specs.Tables.{listing}
 use Rattle.text_rows.specs.declared.Listed.the-variants.{Answers, Bodies, Loads}
 use Rattle.text_output.specs.Answer.{answer, called, floatsOf, lent, lines, prints, written, zeros}
 use Rattle.text_answer.specs.Calling.{Called, left, night}
@@ -42,13 +42,10 @@ all-room room done h = sym (take-all (done * answerWidth) room (omega arith))
 
 -- four parts written one after the other
 pub all-lines : (done refusals : ℕ) (bodies numbers floats room : List ℕ) {told o o1 o2 o3 o4 : List ℕ} {r1 r2 r3 r4 : ℕ}
-    → told ≡ take (done * answerWidth) room
-    → Wrote o 0 (listing Answers (shown told bodies numbers floats)) o1 r1
-    → Wrote o1 r1 (listing Bodies (shown told bodies numbers floats)) o2 r2
-    → Wrote o2 r2 (listing Loads (shown told bodies numbers floats)) o3 r3
-    → Wrote o3 r3 (eLine done refusals) o4 r4
-    → Wrote o 0 (lines done refusals (shown (take (done * answerWidth) room) bodies numbers floats)) o4 r4
-unfolding lines
+    → told ≡ take (done * answerWidth) room → Wrote o 0 (listing Answers told bodies) o1 r1 → Wrote o1 r1 (listing Bodies told bodies) o2 r2
+    → Wrote o2 r2 (listing Loads numbers floats) o3 r3 → Wrote o3 r3 (eLine done refusals) o4 r4
+    → Wrote o 0 (lines done refusals (take (done * answerWidth) room) bodies numbers floats) o4 r4
+unfolding lines listing
 all-lines done refusals bodies numbers floats room e p q r w = rw (← e) (then (then (then p q) r) w)
 
 -- what is written after the call: of a refused one, and of one that was done
@@ -59,7 +56,7 @@ module _ (bodies numbers floats : List ℕ) (r : Report) (bodyValues contactValu
   refused-written h w = rw (ne-eqb _ _ h) w
 
   pub done-written : (bodies′ floats′ : List ℕ) → r .refusal ≡ 0 → bodies′ ≡ prints bodyValues bodies → floats′ ≡ prints contactValues floats
-      → Wrote o 0 (lines (r .done) (r .refused) (shown (take (r .done * answerWidth) room) bodies′ numbers floats′)) o′ q
+      → Wrote o 0 (lines (r .done) (r .refused) (take (r .done * answerWidth) room) bodies′ numbers floats′) o′ q
       → Wrote o 0 (written (night bodies numbers floats []) (left r bodyValues numbers contactValues room)) o′ q
   unfolding written
   done-written bodies′ floats′ h p p′ w = rw (eq-eqb _ _ h) (rw (p, p′) at w)

@@ -12,7 +12,6 @@ ghost use lib.ListN.{length, take};
 ghost use Rattle.text_digits.specs.Wrote.{Wrote};
 ghost use Rattle.text_output.specs.Answer.{answer, floatsOf, lines, prints, written, zeros};
 ghost use Rattle.base_places.specs.Places.{answerWidth, programSteps};
-ghost use Rattle.text_rows.specs.Tables.{shown};
 ghost use Rattle.text_answer.specs.Calling.{Called, left, night};
 
 // The floats that patterns stand for.
@@ -87,15 +86,15 @@ fn write_lines(
     out: &mut [u8],
 ) -> usize
     ensures { λ r. ⌜ Wrote (now (out .entry)) 0
-        (lines (report .done) (report .refused) (shown (take (report .done * answerWidth) (now (room .entry)))
-        (now (bodies .entry)) (now (numbers .entry)) (now (floats .entry)))) (now (out .exit)) r ⌝ }
+        (lines (report .done) (report .refused) (take (report .done * answerWidth) (now (room .entry)))
+        (now (bodies .entry)) (now (numbers .entry)) (now (floats .entry))) (now (out .exit)) r ⌝ }
 {
     let done = report.done;
     let refused = report.refused;
     let told = answers_of(room, done);
-    let a = list(Listed::Answers, &mut *out, 0, told, bodies, numbers, floats);
-    let b = list(Listed::Bodies, &mut *out, a, told, bodies, numbers, floats);
-    let i = list(Listed::Loads, &mut *out, b, told, bodies, numbers, floats);
+    let a = list(Listed::Answers, &mut *out, 0, told, bodies);
+    let b = list(Listed::Bodies, &mut *out, a, told, bodies);
+    let i = list(Listed::Loads, &mut *out, b, numbers, floats);
     text_write::e_line(out, i, done, refused)
 }
 

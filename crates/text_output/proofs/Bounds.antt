@@ -20,12 +20,12 @@ use Rattle.text_read.specs.Text.{Text, reading, refused, textOf}
 use Rattle.text_prefix.specs.Prefix.{WholeRows}
 use Rattle.text_prefix.proofs.Prefix.{prefix-decides, tables-hold}
 use Rattle.text_write.specs.Lines.{eLine, rLine}
-use Rattle.text_rows.specs.Tables.{Shown, listing}
+use Rattle.text_rows.specs.Tables.{listing}
 use Rattle.text_rows.specs.declared.Listed.the-variants.{Answers, Bodies, Loads}
 use Rattle.text_write.proofs.Lengths.{Small, e-line-length, r-line-length, x-line-length}
 use Rattle.text_rows.proofs.Lengths.{answers-length, bodies-length, loads-length}
 use Rattle.text_output.specs.Bounds.{OutputFits, PrefixDecidesOutput}
-use Rattle.text_output.specs.Answer.{answer, called, lent, lines, prints, shows, written}
+use Rattle.text_output.specs.Answer.{answer, called, lent, lines, prints, written}
 use Rattle.text_output.specs.Output.{output, outputOf}
 
 -- twice the steps done is no more than the list is long
@@ -45,21 +45,21 @@ prints-short [] kept = omega arith
 prints-short (x ∷ xs) [] = omega arith
 prints-short (x ∷ xs) (k ∷ kept) = omega (arith, prints-short xs kept)
 
-module _ (done refusals : ℕ) (x : Shown) where
-  lines-fit : done ≤ 256 → refusals ≤ done → length (x .told) ≤ done * 2 → Small (x .told) → length (x .bodies) ≤ 192
-      → length (x .floats) ≤ 2880 → length (lines done refusals x) ≤ longestOutput
+module _ (done refusals : ℕ) (told bodies numbers floats : List ℕ) where
+  lines-fit : done ≤ 256 → refusals ≤ done → length told ≤ done * 2 → Small told → length bodies ≤ 192 → length floats ≤ 2880
+      → length (lines done refusals told bodies numbers floats) ≤ longestOutput
   unfolding lines
   lines-fit few fewer p small q r =
       rw (
-        length-append (listing Answers x ++ listing Bodies x ++ listing Loads x) (eLine done refusals),
-        length-append (listing Answers x ++ listing Bodies x) (listing Loads x),
-        length-append (listing Answers x) (listing Bodies x),
+        length-append (listing Answers told [] ++ listing Bodies [] bodies ++ listing Loads numbers floats) (eLine done refusals),
+        length-append (listing Answers told [] ++ listing Bodies [] bodies) (listing Loads numbers floats),
+        length-append (listing Answers told []) (listing Bodies [] bodies),
       )
       (omega (
         arith,
-        answers-length x small,
-        bodies-length x,
-        loads-length x (omega arith),
+        answers-length told [] small,
+        bodies-length [] bodies,
+        loads-length numbers floats (omega arith),
         e-line-length done refusals (omega arith) (omega arith),
       ))
 
@@ -72,9 +72,14 @@ told-small e few j = side (decLt j (e .done * 2))
     side (no h) = rw (List·getD-eq-default (take (e .done * 2) (e .room)) 0 {n = j} (rw length-take (omega arith))) (omega arith)
 
 written-fits : (t : Night) → WholeRows t → (done : Bool) → eqb (called t .refusal) 0 ≡ done
-    → length (if done then lines (called t .done) (called t .refused) (shows t (called t)) else rLine (called t .refusal)) ≤ longestOutput
+    → length
+    (if done
+    then lines (called t .done) (called t .refused) (take (called t .done * 2) (called t .room))
+    (prints (called t .tables .bodies) (t .bodies)) (t .numbers) (prints (called t .tables .floats) (t .floats))
+    else rLine (called t .refusal))
+    ≤ longestOutput
 written-fits t h true e =
-    lines-fit _ _ (shows t (called t)) (omega (arith, few-done t (eqb-true _ _ e), h .steps, h .few-steps)) (few-called t .refused)
+    lines-fit _ _ _ _ (t .numbers) _ (omega (arith, few-done t (eqb-true _ _ e), h .steps, h .few-steps)) (few-called t .refused)
     (omega (arith, length-take (called t .done * 2) (called t .room))) (told-small (called t) (few-called t))
     (omega (arith, prints-short (called t .tables .bodies) (t .bodies), h .bodies, h .few-bodies))
     (omega (arith, prints-short (called t .tables .floats) (t .floats), h .floats, h .few-contacts))

@@ -12,7 +12,7 @@ use Rattle.call_rules.specs.Call.{Ended, Lent, lend, oneByOne}
 use Rattle.text_digits.specs.Bits.{printed, valueOf}
 use Rattle.text_line.specs.Night.{Night}
 use Rattle.text_write.specs.Lines.{eLine, rLine}
-use Rattle.text_rows.specs.Tables.{Shown, listing, shown}
+use Rattle.text_rows.specs.Tables.{listing}
 use Rattle.text_rows.specs.declared.Listed.the-variants.{Answers, Bodies, Loads}
 
 -- a table's floats, by the bits that were read
@@ -37,19 +37,18 @@ lent t =
 unfoldable pub called : Night → Ended
 called t = oneByOne (lent t) (rows stepWidth (t .steps))
 
--- "It writes one A .. per step, all B, then I .., then E"
-unfoldable pub lines : ℕ → ℕ → Shown → List ℕ
-lines done refusals x = listing Answers x ++ listing Bodies x ++ listing Loads x ++ eLine done refusals
-
--- the answers of the steps done, and the bits that are printed
-abbrev pub shows : Night → Ended → Shown
-shows t e =
-    shown (take (e .done * answerWidth) (e .room)) (prints (e .tables .bodies) (t .bodies)) (t .numbers)
-    (prints (e .tables .floats) (t .floats))
+-- "It writes one A .. per step, all B, then I .., then E": told is the answers of the steps done, bodies and floats are the bits printed
+unfoldable pub lines : ℕ → ℕ → List ℕ → List ℕ → List ℕ → List ℕ → List ℕ
+lines done refusals told bodies numbers floats =
+    listing Answers told [] ++ listing Bodies [] bodies ++ listing Loads numbers floats ++ eLine done refusals
 
 -- "A whole-call refusal writes only R and its number"
 unfoldable pub written : Night → Ended → List ℕ
-written t e = if eqb (e .refusal) 0 then lines (e .done) (e .refused) (shows t e) else rLine (e .refusal)
+written t e =
+    if eqb (e .refusal) 0
+    then lines (e .done) (e .refused) (take (e .done * answerWidth) (e .room)) (prints (e .tables .bodies) (t .bodies)) (t .numbers)
+    (prints (e .tables .floats) (t .floats))
+    else rLine (e .refusal)
 
 unfoldable pub answer : Night → List ℕ
 answer t = written t (called t)

@@ -11,7 +11,7 @@ use Rattle.base_places.specs.Places.{answerWidth, bodyWidth, floatsWidth, lineB
 use Rattle.base_rows.specs.Rows.{part, row, rows}
 use Rattle.base_rows.proofs.Parts.{part-at}
 use Rattle.text_write.proofs.Lengths.{Small, each-length, short-line, two-small}
-use Rattle.text_rows.specs.Tables.{Shown, aLine, bLine, iLine, listing, pointLine, pointsOf}
+use Rattle.text_rows.specs.Tables.{aLine, bLine, iLine, listing, pointLine, pointsOf}
 use Rattle.text_rows.specs.declared.Listed.the-variants.{Answers, Bodies, Loads}
 
 -- what a part has stands in the whole
@@ -27,35 +27,35 @@ part-short : (a n : ℕ) (l : List ℕ) → length (part a n l) ≤ n
 unfolding part
 part-short a n l = omega (arith, length-take n (drop a l))
 
-module _ (x : Shown) where
-  pub answers-length : Small (x .told) → length (listing Answers x) ≤ rows answerWidth (x .told) * lineBytes answerWidth 0
+module _ (numbers bits : List ℕ) where
+  pub answers-length : Small numbers → length (listing Answers numbers bits) ≤ rows answerWidth numbers * lineBytes answerWidth 0
   unfolding listing aLine
-  answers-length h = each-length (aLine (x .told)) (lineBytes answerWidth 0) (rows answerWidth (x .told)) one
+  answers-length h = each-length (aLine numbers) (lineBytes answerWidth 0) (rows answerWidth numbers) one
     where
-      one : (i : ℕ) → i < rows answerWidth (x .told) → length (aLine (x .told) i) ≤ lineBytes answerWidth 0
+      one : (i : ℕ) → i < rows answerWidth numbers → length (aLine numbers i) ≤ lineBytes answerWidth 0
       one i there =
-          let its : List ℕ = row answerWidth i (x .told) in
+          let its : List ℕ = row answerWidth i numbers in
           omega (
             arith,
-            short-line 65 its [] (part-small (i * answerWidth) answerWidth (x .told) h),
-            part-short (i * answerWidth) answerWidth (x .told),
+            short-line 65 its [] (part-small (i * answerWidth) answerWidth numbers h),
+            part-short (i * answerWidth) answerWidth numbers,
           )
 
-  pub bodies-length : length (listing Bodies x) ≤ rows bodyWidth (x .bodies) * lineBytes 0 bodyWidth
+  pub bodies-length : length (listing Bodies numbers bits) ≤ rows bodyWidth bits * lineBytes 0 bodyWidth
   unfolding listing bLine
-  bodies-length = each-length (bLine (x .bodies)) (lineBytes 0 bodyWidth) (rows bodyWidth (x .bodies)) one
+  bodies-length = each-length (bLine bits) (lineBytes 0 bodyWidth) (rows bodyWidth bits) one
     where
-      one : (i : ℕ) → i < rows bodyWidth (x .bodies) → length (bLine (x .bodies) i) ≤ lineBytes 0 bodyWidth
+      one : (i : ℕ) → i < rows bodyWidth bits → length (bLine bits i) ≤ lineBytes 0 bodyWidth
       one i there =
-          omega (arith, short-line 66 [] (row bodyWidth i (x .bodies)) (λ i. omega arith), part-short (i * bodyWidth) bodyWidth (x .bodies))
+          omega (arith, short-line 66 [] (row bodyWidth i bits) (λ i. omega arith), part-short (i * bodyWidth) bodyWidth bits)
 
-  pub loads-length : rows floatsWidth (x .floats) ≤ 65536 → length (listing Loads x) ≤ rows floatsWidth (x .floats) * 2 * lineBytes 2 2
+  pub loads-length : rows floatsWidth bits ≤ 65536 → length (listing Loads numbers bits) ≤ rows floatsWidth bits * 2 * lineBytes 2 2
   unfolding listing pointLine iLine
-  loads-length few = each-length (pointLine (x .numbers) (x .floats)) (lineBytes 2 2) (rows floatsWidth (x .floats) * 2) one
+  loads-length few = each-length (pointLine numbers bits) (lineBytes 2 2) (rows floatsWidth bits * 2) one
     where
-      side : (j : ℕ) (t : Bool) → j / 2 < 65536 → length (if t then iLine (x .floats) (j / 2) (j % 2) else []) ≤ lineBytes 2 2
+      side : (j : ℕ) (t : Bool) → j / 2 < 65536 → length (if t then iLine bits (j / 2) (j % 2) else []) ≤ lineBytes 2 2
       side j true h = short-line 73 _ _ (two-small (j / 2) (j % 2) h (omega arith))
       side j false h = omega arith
 
-      one : (j : ℕ) → j < rows floatsWidth (x .floats) * 2 → length (pointLine (x .numbers) (x .floats) j) ≤ lineBytes 2 2
-      one j there = side j (ltb (j % 2) (pointsOf (x .numbers) (j / 2))) (omega arith)
+      one : (j : ℕ) → j < rows floatsWidth bits * 2 → length (pointLine numbers bits j) ≤ lineBytes 2 2
+      one j there = side j (ltb (j % 2) (pointsOf numbers (j / 2))) (omega arith)

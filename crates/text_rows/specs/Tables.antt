@@ -39,26 +39,16 @@ pointsOf numbers k = let count = getD (row numbersWidth k numbers) 2 0 in if eqb
 unfoldable pub pointLine : List ℕ → List ℕ → ℕ → List ℕ
 pointLine numbers floats j = if ltb (j % 2) (pointsOf numbers (j / 2)) then iLine floats (j / 2) (j % 2) else []
 
--- what is written of: the answers of the steps done, the bodies, the contacts' numbers and floats
-pub record Shown : Type 0 where
-  pub told : List ℕ
-  pub bodies : List ℕ
-  pub numbers : List ℕ
-  pub floats : List ℕ
+-- what is listed, from numbers and bits: answers, bodies, or points. How many rows there are, and the line of row i, if it has one
+abbrev pub rowsOf : Listed → List ℕ → List ℕ → ℕ
+rowsOf Answers told bits = rows answerWidth told
+rowsOf Bodies numbers bodies = rows bodyWidth bodies
+rowsOf Loads numbers floats = rows floatsWidth floats * 2
 
-abbrev pub shown : List ℕ → List ℕ → List ℕ → List ℕ → Shown
-shown told bodies numbers floats = record { told = told; bodies = bodies; numbers = numbers; floats = floats }
+abbrev pub rowLine : Listed → List ℕ → List ℕ → ℕ → List ℕ
+rowLine Answers told bits i = aLine told i
+rowLine Bodies numbers bodies i = bLine bodies i
+rowLine Loads numbers floats j = pointLine numbers floats j
 
--- how many rows are listed, and the line of row i, if it has one
-abbrev pub rowsOf : Listed → Shown → ℕ
-rowsOf Answers x = rows answerWidth (x .told)
-rowsOf Bodies x = rows bodyWidth (x .bodies)
-rowsOf Loads x = rows floatsWidth (x .floats) * 2
-
-abbrev pub rowLine : Listed → Shown → ℕ → List ℕ
-rowLine Answers x i = aLine (x .told) i
-rowLine Bodies x i = bLine (x .bodies) i
-rowLine Loads x j = pointLine (x .numbers) (x .floats) j
-
-unfoldable pub listing : Listed → Shown → List ℕ
-listing which x = each (rowLine which x) (rowsOf which x)
+unfoldable pub listing : Listed → List ℕ → List ℕ → List ℕ
+listing which numbers bits = each (rowLine which numbers bits) (rowsOf which numbers bits)

@@ -14,9 +14,10 @@ ghost use lib.ListN.{length};
 ghost use Rattle.text_digits.specs.Wrote.{Wrote};
 ghost use Rattle.base_places.specs.Places.{answerWidth, bodyWidth, floatsWidth};
 ghost use Rattle.base_rows.specs.Rows.{rows};
-ghost use Rattle.text_rows.specs.Tables.{aLine, bLine, iLine, listing, pointLine, pointsOf, rowLine, rowsOf, shown};
+ghost use Rattle.text_rows.specs.Tables.{aLine, bLine, iLine, listing, pointLine, pointsOf, rowLine, rowsOf};
 
-// What is listed: answers, bodies, or the loads of points.
+// What is listed, from a table of numbers and one of bits: answers, which are numbers, bodies, which are bits, or the
+// loads of points, from their contacts' two tables.
 pub enum Listed {
     Answers,
     Bodies,
@@ -95,13 +96,13 @@ fn point_line(out: &mut [u8], at: usize, numbers: &[u16], floats: &[u32], j: usi
 }
 
 // How many rows are listed.
-fn rows_of(which: Listed, told: &[u16], bodies: &[u32], numbers: &[u16], floats: &[u32]) -> usize
-    ensures { λ r. ⌜ r ≡ rowsOf which (shown (now (told .entry)) (now (bodies .entry)) (now (numbers .entry)) (now (floats .entry))) ⌝ }
+fn rows_of(which: Listed, numbers: &[u16], bits: &[u32]) -> usize
+    ensures { λ r. ⌜ r ≡ rowsOf which (now (numbers .entry)) (now (bits .entry)) ⌝ }
 {
     match which {
-        Listed::Answers => told.len() / ANSWER_WIDTH,
-        Listed::Bodies => bodies.len() / BODY_WIDTH,
-        Listed::Loads => floats.len() / FLOATS_WIDTH * 2,
+        Listed::Answers => numbers.len() / ANSWER_WIDTH,
+        Listed::Bodies => bits.len() / BODY_WIDTH,
+        Listed::Loads => bits.len() / FLOATS_WIDTH * 2,
     }
 }
 
@@ -110,43 +111,29 @@ fn row_line(
     which: Listed,
     out: &mut [u8],
     at: usize,
-    told: &[u16],
-    bodies: &[u32],
     numbers: &[u16],
-    floats: &[u32],
+    bits: &[u32],
     i: usize,
 ) -> usize
-    requires { ⌜ (i < rowsOf which (shown (now told) (now bodies) (now numbers) (now floats))) × (at ≤ length (now out)) ⌝ }
-    ensures { λ r. ⌜ Wrote (now (out .entry)) at
-        (rowLine which (shown (now (told .entry)) (now (bodies .entry)) (now (numbers .entry)) (now (floats .entry))) i)
-        (now (out .exit)) r ⌝ }
+    requires { ⌜ (i < rowsOf which (now numbers) (now bits)) × (at ≤ length (now out)) ⌝ }
+    ensures { λ r. ⌜ Wrote (now (out .entry)) at (rowLine which (now (numbers .entry)) (now (bits .entry)) i) (now (out .exit)) r ⌝ }
 {
     match which {
-        Listed::Answers => a_line(out, at, told, i),
-        Listed::Bodies => b_line(out, at, bodies, i),
-        Listed::Loads => point_line(out, at, numbers, floats, i),
+        Listed::Answers => a_line(out, at, numbers, i),
+        Listed::Bodies => b_line(out, at, bits, i),
+        Listed::Loads => point_line(out, at, numbers, bits, i),
     }
 }
 
 // All rows of what is listed.
-pub fn list(
-    which: Listed,
-    out: &mut [u8],
-    at: usize,
-    told: &[u16],
-    bodies: &[u32],
-    numbers: &[u16],
-    floats: &[u32],
-) -> usize
-    ensures { λ r. ⌜ Wrote (now (out .entry)) at
-        (listing which (shown (now (told .entry)) (now (bodies .entry)) (now (numbers .entry)) (now (floats .entry))))
-        (now (out .exit)) r ⌝ }
+pub fn list(which: Listed, out: &mut [u8], at: usize, numbers: &[u16], bits: &[u32]) -> usize
+    ensures { λ r. ⌜ Wrote (now (out .entry)) at (listing which (now (numbers .entry)) (now (bits .entry))) (now (out .exit)) r ⌝ }
 {
-    let n = rows_of(which, told, bodies, numbers, floats);
+    let n = rows_of(which, numbers, bits);
     let mut p = text_write::start(out, at);
     let mut i = 0;
     while i < n {
-        p = row_line(which, &mut *out, p, told, bodies, numbers, floats, i);
+        p = row_line(which, &mut *out, p, numbers, bits, i);
         i += 1;
     }
     p

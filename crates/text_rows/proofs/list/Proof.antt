@@ -5,16 +5,16 @@ use Rattle.text_digits.specs.Wrote.{Wrote}
 use Rattle.text_digits.proofs.Then.{as-long, room}
 use Rattle.text_write.specs.Lines.{each}
 use Rattle.text_write.proofs.Lines.{from-start, line-more}
-use Rattle.text_rows.specs.Tables.{rowLine, shown}
+use Rattle.text_rows.specs.Tables.{rowLine}
 use Rattle.text_rows.proofs.ByTable.{all-listed}
 use Rattle.text_rows.proofs.list.Statement.{statement}
 use Rattle.text_rows.proofs.list.Tie as tie
 
 abbrev Inv-loop : tie.InvT-loop
-Inv-loop which out₀ at told bodies numbers floats n p₀ i₀ out p i = (i ≤ n) × Wrote out₀ at (each (rowLine which (shown told bodies numbers floats)) i) out p
+Inv-loop which out₀ at numbers bits n p₀ i₀ out p i = (i ≤ n) × Wrote out₀ at (each (rowLine which numbers bits) i) out p
 
 abbrev μ-loop : tie.MeasureT-loop
-μ-loop which out₀ at told bodies numbers floats n p₀ i₀ out p i = n - i
+μ-loop which out₀ at numbers bits n p₀ i₀ out p i = n - i
 
 rows-of-requires : tie.Need-rows-of-requires Inv-loop μ-loop
 rows-of-requires c κs = search needs

@@ -1,5 +1,5 @@
 -- `text_rows::rows_of` meets its contract. By what is listed. Assumes nothing.
-use Rattle.text_rows.proofs.ByTable.{answers, bodies-many, points}
+use Rattle.text_rows.proofs.ByTable.{answers, bodies, points}
 use borrow.Author.Needs.{needs}
 use Rattle.text_rows.proofs.rows_of.Statement.{statement}
 use Rattle.text_rows.proofs.rows_of.Tie as tie
@@ -20,7 +20,7 @@ returns : tie.Need-returns
 returns c = search answers
 
 returns-2 : tie.Need-returns-2
-returns-2 c = search bodies-many
+returns-2 c = search bodies
 
 returns-3 : tie.Need-returns-3
 returns-3 c = search points
