@@ -30,13 +30,8 @@ fn a_line(out: &mut [u8], at: usize, told: &[u16], i: usize) -> usize
     ensures { λ r. ⌜ Wrote (now (out .entry)) at (aLine (now (told .entry)) i) (now (out .exit)) r ⌝ }
 {
     let none = [0u32; 1];
-    text_write::row_line(
-        out,
-        at,
-        65,
-        &told[i * ANSWER_WIDTH..i * ANSWER_WIDTH + ANSWER_WIDTH],
-        &none[..0],
-    )
+    let row = &told[i * ANSWER_WIDTH..i * ANSWER_WIDTH + ANSWER_WIDTH];
+    text_write::row_line(out, at, 65, row, &none[..0])
 }
 
 // Body i.
@@ -45,13 +40,8 @@ fn b_line(out: &mut [u8], at: usize, bodies: &[u32], i: usize) -> usize
     ensures { λ r. ⌜ Wrote (now (out .entry)) at (bLine (now (bodies .entry)) i) (now (out .exit)) r ⌝ }
 {
     let none = [0u16; 1];
-    text_write::row_line(
-        out,
-        at,
-        66,
-        &none[..0],
-        &bodies[i * BODY_WIDTH..i * BODY_WIDTH + BODY_WIDTH],
-    )
+    let row = &bodies[i * BODY_WIDTH..i * BODY_WIDTH + BODY_WIDTH];
+    text_write::row_line(out, at, 66, &none[..0], row)
 }
 
 // Point `point` of contact k: its normal and its tangent impulse.

@@ -4,26 +4,26 @@ use borrow.Author.Needs.{needs}
 use Rattle.text_rows.proofs.a_line.Statement.{statement}
 use Rattle.text_rows.proofs.a_line.Tie as tie
 
-mul-row-line : tie.Need-mul-row-line
-mul-row-line c = search needs
+mul-row : tie.Need-mul-row
+mul-row c = search needs
 
-mul-row-line-2 : tie.Need-mul-row-line-2
-mul-row-line-2 c = search needs
+mul-row-2 : tie.Need-mul-row-2
+mul-row-2 c = search needs
 
-add-row-line : tie.Need-add-row-line
-add-row-line c = search needs
+add-row : tie.Need-add-row
+add-row c = search needs
 
-mul-row-line-3 : tie.Need-mul-row-line-3
-mul-row-line-3 c = search needs
+mul-row-3 : tie.Need-mul-row-3
+mul-row-3 c = search needs
 
-sub-row-line : tie.Need-sub-row-line
-sub-row-line c = search needs
+sub-row : tie.Need-sub-row
+sub-row c = search needs
 
-part-row-line-start : tie.Need-part-row-line-start
-part-row-line-start c = search needs
+part-row-start : tie.Need-part-row-start
+part-row-start c = search needs
 
-part-row-line-end : tie.Need-part-row-line-end
-part-row-line-end c = search needs
+part-row-end : tie.Need-part-row-end
+part-row-end c = search needs
 
 array-share-prefix-none : tie.Need-array-share-prefix-none
 array-share-prefix-none c = search needs
@@ -44,13 +44,13 @@ pub a-line-spec : {M : Type 1} → statement M
 a-line-spec =
     tie.close
     (tie.spec
-    mul-row-line
-    mul-row-line-2
-    add-row-line
-    mul-row-line-3
-    sub-row-line
-    part-row-line-start
-    part-row-line-end
+    mul-row
+    mul-row-2
+    add-row
+    mul-row-3
+    sub-row
+    part-row-start
+    part-row-end
     array-share-prefix-none
     slice-aggregate-row-line
     row-line-requires
