@@ -19,7 +19,7 @@ from replays import lines_of, replay
 DECIDES = 33313
 ABOUT_THE_END = range(DECIDES - 3, DECIDES + 5)
 # No output is longer; what is recorded may be.
-LONGEST_OUTPUT = 21100
+LONGEST_OUTPUT = 9550
 
 NOTHING = b'E\t0\t0\n'               # the output of an empty input
 NEARLY_D = (b'D\r', b' D', b'D ', b'DD', b'd', b'D\t', b'D\0', b'\0D', b'\xc4', b'\xef\xbb\xbfD', b'D\v', b'DZ')

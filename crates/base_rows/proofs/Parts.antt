@@ -35,6 +35,11 @@ pub length-part : {A : Type 0} (a n : ℕ) (l : List A) → a + n ≤ length l �
 unfolding part
 length-part a n l h = simp (length-take, length-drop) (omega arith)
 
+-- place i of a part
+pub part-at : {A : Type 0} (a n : ℕ) (l : List A) (i : ℕ) (d : A) → i < n → getD (part a n l) i d ≡ getD l (a + i) d
+unfolding part
+part-at a n l i d h = getD-take n (drop a l) i d h ∙ getD-drop a l i d
+
 module _ {A : Type 0} (d : A) where
   -- an element of the first list, and one of the second
   at-left : (s t : List A) (j : ℕ) → j < length s → getD (s ++ t) j d ≡ getD s j d

@@ -1,4 +1,4 @@
--- Demand 1, and that room past the steps done stays, of whatever meets the call's contract. (Demand 3 is in Reordered.antt.) Assumes nothing.
+-- Demand 1, that room past the steps done stays, and how large what is told can be, of whatever meets the call's contract. (Demand 3 is in Reordered.antt.) Assumes nothing.
 use Prim.Native.Nat.{ℕ, suc, _≤_, _<_}
 use native.Mathlib.Omega.{arith}
 use mathlib.Core.Bool.{Bool, true, false}
@@ -17,10 +17,13 @@ use Rattle.list_cells.specs.declared.Answer.{Answer}
 use Rattle.list_rules.specs.Sweep.{Swept, Tables, stepOn, sweep}
 use Rattle.list_rules.proofs.Steps.{refused-keeps}
 use Rattle.list_rules.proofs.Exact.{exact-on-tables}
+use Rattle.list_rules.proofs.Few.{told-few}
+use Rattle.list_rules.proofs.Going.{few-refused}
 use Rattle.list_rules.proofs.Room.{answer-read, room-past, tables-are, tables-suc}
 use Rattle.list_checks.specs.Checks.{wholeCall}
 use Rattle.list_checks.proofs.Passed as passed
 use Rattle.call_rules.specs.Call.{Ended, Lent, allDone, nothingDone, oneByOne, stepsDone}
+use Rattle.call_rules.specs.Few.{FewTold}
 use Rattle.call_rules.specs.Room.{RoomKept}
 use Rattle.call_rules.specs.Demands.{Demand1, Demand2, before, numberOf}
 
@@ -101,6 +104,19 @@ module _ (lent : Lent) (budget : ℕ) (e : Ended) (so : Demand2 lent budget e) w
       let many : e .done ≡ done = ap (λ (x : Ended). x .done) is in
       ap (λ (x : Ended). row answerWidth i (x .room)) is ∙ room-past (lent .steps) (lent .tables) (lent .room) done i (omega arith)
 
+  few : How → FewTold e
+  unfolding nothingDone allDone
+  few (refused-by nz is) =
+      let none : e .done ≡ 0 = ap (λ (x : Ended). x .done) is in
+      record { answers = λ j h. absurd (omega arith); refused = omega (arith, ap (λ (x : Ended). x .refused) is) }
+  few (all-done z is) =
+      let room : rows stepWidth (lent .steps) ≤ rows answerWidth (lent .room) = passed.room-enough (lent .tables) (lent .steps) (lent .room) z in
+      let many : e .done ≡ done = ap (λ (x : Ended). x .done) is in
+      record {
+        answers = λ j h. rw (ap (λ (x : Ended). x .room) is) (told-few (lent .steps) (lent .tables) (lent .room) done (omega arith) j (omega arith));
+        refused = rw (ap (λ (x : Ended). x .refused) is, many) (few-refused (lent .steps) (lent .tables) (lent .room) done);
+      }
+
 pub demand1 : (lent : Lent) (budget : ℕ) (e : Ended) → Demand2 lent budget e → Demand1 lent budget e
 demand1 lent budget e so =
     let ended = how lent budget e so in
@@ -117,3 +133,6 @@ demand1 lent budget e so =
 
 pub room-kept : (lent : Lent) (budget : ℕ) (e : Ended) → Demand2 lent budget e → RoomKept lent e
 room-kept lent budget e so = past-done lent budget e so (how lent budget e so)
+
+pub few-told : (lent : Lent) (budget : ℕ) (e : Ended) → Demand2 lent budget e → FewTold e
+few-told lent budget e so = few lent budget e so (how lent budget e so)

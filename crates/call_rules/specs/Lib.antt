@@ -2,3 +2,4 @@ pub mod Call
 pub mod Demands
 pub mod Room
 pub mod Swapped
+pub mod Few

@@ -19,7 +19,7 @@ use Rattle.list_rules.specs.Sweep.{Tables, itsContact, ofStep, stepOn, v
 use Rattle.list_rules.proofs.Steps.{number-of}
 
 module _ (s : Step) (t : Tables) where
-  number-first : stepOn s t .answer .number ≡ first (ofStep s t)
+  pub number-first : stepOn s t .answer .number ≡ first (ofStep s t)
   unfolding ofStep
   number-first = number-of s t ∙ by-case (ltb (s .contact) (rows floatsWidth (t .floats)))
     where

@@ -4,3 +4,4 @@ pub mod Room
 pub mod Done
 pub mod Rows
 pub mod Exact
+pub mod Few

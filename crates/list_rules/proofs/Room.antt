@@ -50,7 +50,7 @@ module _ (steps : List ℕ) (t : Tables) (room : List ℕ) where
   as-many-rows (suc n) = ap length (room-suc n) ∙ room-as-long (roomAfter n) n (nextAnswer n) ∙ as-many-rows n
 
   -- row i has the answer of step i, once that is done
-  answer-row : (n i : ℕ) → i < n → n ≤ rows answerWidth room → row answerWidth i (roomAfter n) ≡ answerRow (nextAnswer i)
+  pub answer-row : (n i : ℕ) → i < n → n ≤ rows answerWidth room → row answerWidth i (roomAfter n) ≡ answerRow (nextAnswer i)
   answer-row zero i h fits = absurd (not-suc-le-zero h)
   answer-row (suc n) i h fits =
       ap (row answerWidth i) (room-suc n)

@@ -1,2 +1,3 @@
 pub mod Sweep
 pub mod Exact
+pub mod Few

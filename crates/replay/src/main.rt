@@ -1,6 +1,10 @@
 // The replay of recorded nights: a file of days on standard input, a line for each day on standard output. All that it
 // says stands in the crate replay_judge; here are the buffers, the reading in portions of at most 1,024 bytes, and what is said
 // on standard error where the file cannot be read to its end or a line not written.
+use base_places::HELD;
+use base_places::LONGEST_OUTPUT;
+use base_places::PORTION;
+use base_places::TOLD;
 use libc::STDERR_FILENO;
 use libc::STDIN_FILENO;
 use libc::STDOUT_FILENO;
@@ -35,11 +39,11 @@ fn write_out(told: &[u8], k: usize) -> bool
 // Reads once, and tells of the days that end there.
 fn replay_some(
     j: Judge,
-    input: &mut [u8; 33314],
-    out: &mut [u8; 21100],
-    told: &mut [u8; 65536],
+    input: &mut [u8; HELD],
+    out: &mut [u8; LONGEST_OUTPUT],
+    told: &mut [u8; TOLD],
 ) -> Onward {
-    let mut portion = [0u8; 1024];
+    let mut portion = [0u8; PORTION];
     let got = libc::read(STDIN_FILENO, &mut portion);
     if got < 0 {
         io::write_all(
@@ -65,14 +69,19 @@ fn replay_some(
 }
 
 // The end of the file.
-fn replay_end(j: Judge, input: &mut [u8; 33314], out: &mut [u8; 21100], told: &mut [u8; 65536]) {
+fn replay_end(
+    j: Judge,
+    input: &mut [u8; HELD],
+    out: &mut [u8; LONGEST_OUTPUT],
+    told: &mut [u8; TOLD],
+) {
     let k = judge_end(j, input, out, &mut *told);
     write_out(&*told, k);
 }
 
 // A proved loop has to end, and nothing says that a file does: so the loop counts down from a number that no run uses
 // up. With 2^53 portions of 1,024 bytes a day's number stays below 2^63.
-fn replay(input: &mut [u8; 33314], out: &mut [u8; 21100], told: &mut [u8; 65536]) {
+fn replay(input: &mut [u8; HELD], out: &mut [u8; LONGEST_OUTPUT], told: &mut [u8; TOLD]) {
     let mut j = begin();
     let mut turns: u64 = 9007199254740992;
     while 0 < turns {
@@ -90,8 +99,8 @@ fn replay(input: &mut [u8; 33314], out: &mut [u8; 21100], told: &mut [u8; 65536]
 }
 
 fn main() {
-    let mut input = [0; 33314];
-    let mut out = [0; 21100];
-    let mut told = [0; 65536];
+    let mut input = [0; HELD];
+    let mut out = [0; LONGEST_OUTPUT];
+    let mut told = [0; TOLD];
     replay(&mut input, &mut out, &mut told);
 }

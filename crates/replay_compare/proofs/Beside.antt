@@ -9,6 +9,7 @@ use mathlib.Core.Path.{_≡_, refl, sym, _∙_}
 use lib.Dec.{eqb, ltb}
 use lib.ListN.{drop, drop-of-length-le, getD, length, take}
 use lib.Seq.{drop-cons, length-take-le}
+use Rattle.base_places.specs.Places.{longestOutput}
 use Rattle.base_words.proofs.Pick.{never}
 use Rattle.replay_days.specs.Judged.{linesFrom, verdict}
 use Rattle.replay_days.specs.Going.{ending, meets, restOf}
@@ -106,7 +107,7 @@ module _ (p : Spot) (buffer line : List ℕ) (left : List (List ℕ)) (n : ℕ) 
 
   is-next : (s : ℕ) → meets line left ≡ true → linesFrom [] (drop s whole) ≡ restOf left → IsNext (p .len) (p .number) buffer line left n s
   is-next s e r =
-      let few : n + length left ≤ 21102 = m .few in
+      let few : n + length left ≤ longestOutput + 2 = m .few in
       let l : length left ≡ suc (length (restOf left)) = first-met line left e in
       record {
         next = e;

@@ -5,6 +5,7 @@ use mathlib.Core.Bool.{true, false}
 use mathlib.Core.List.{List, [], _++_}
 use mathlib.Core.Path.{_≡_}
 use lib.ListN.{drop, length, take}
+use Rattle.base_places.specs.Places.{longestOutput}
 use Rattle.replay_days.specs.Judged.{linesFrom}
 use Rattle.replay_days.specs.Going.{meets}
 use Rattle.replay_compare.specs.declared.Spot.{Spot}
@@ -19,5 +20,5 @@ pub record Meets (p : Spot) (buffer line : List ℕ) (left : List (List ℕ)) (n
   -- once they do not, no end of the recorded line makes it the next
   pub off : p .on ≡ false → (end : List ℕ) → meets (line ++ end) left ≡ false
   pub number : p .number ≡ n
-  -- an output has at most 21,100 bytes, and no more than one line more than bytes: so n is small
-  pub few : n + length left ≤ 21102
+  -- an output has no more than one line more than bytes: so n is small
+  pub few : n + length left ≤ longestOutput + 2

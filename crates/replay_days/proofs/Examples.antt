@@ -1,14 +1,14 @@
 -- The request's cases on small files, worked out. Assumes nothing.
 use Prim.Native.Nat.{ℕ}
 use mathlib.Core.List.{List, [], _∷_, _++_}
-use mathlib.Core.Path.{_≡_, refl, ap}
+use mathlib.Core.Path.{_≡_, refl, ap, ap₂}
 use Rattle.text_digits.specs.Digits.{decBytes, decDigits, decField, glyph}
 use Rattle.text_fields.specs.Fields.{fields, onto}
 use Rattle.text_fields.specs.Letters.{letterIn, letterOf, lineLetter}
 use Rattle.text_line.specs.Lines.{readLetter, readLine}
 use Rattle.text_line.specs.Night.{ofProgram}
 use Rattle.text_read.specs.Text.{closed, feed, feeds, lineEnded, refused, textOf}
-use Rattle.text_write.specs.Lines.{joined, line, xLine}
+use Rattle.text_write.specs.Lines.{joined, line}
 use Rattle.text_output.specs.Output.{output, outputOf}
 use Rattle.replay_days.specs.Judged.{
   compared,
@@ -32,7 +32,7 @@ unfolding textOf closed feeds feed lineEnded readLine readLetter lineLetter lett
 read = refl
 
 its-output : output (65 ∷ 10 ∷ []) ≡ itsOutput
-unfolding output outputOf xLine line joined decField decBytes decDigits glyph
+unfolding output outputOf line joined decField decBytes decDigits glyph
 its-output = ap outputOf read
 
 -- what is said of a day with that night
@@ -42,9 +42,6 @@ said day recorded o = verdict day (firstDiffering 1 (linesOf o) recorded)
 known : (day : ℕ) (recorded : List (List ℕ)) → said day recorded (output (65 ∷ 10 ∷ [])) ≡ said day recorded itsOutput
 known day recorded = ap (said day recorded) its-output
 
-joined-days : {a b c d : List ℕ} → a ≡ b → c ≡ d → a ++ c ≡ b ++ d
-joined-days e f = rw (e, f)
-
 abbrev x : List ℕ
 x = 88 ∷ 9 ∷ 49 ∷ 9 ∷ 50 ∷ []
 
@@ -52,11 +49,11 @@ pub examples : Examples
 unfolding judged judgedFrom linesOf linesFrom onlyD onlyZ same compared firstDiffering verdict noD dayLine decField decBytes decDigits glyph
 examples = record {
   empty = refl;
-  same = joined-days (known 1 (x ∷ [])) refl;
+  same = ap₂ _++_ (known 1 (x ∷ [])) refl;
   z-missing = known 1 (x ∷ []);
-  differs = joined-days (known 1 ((65 ∷ []) ∷ [])) refl;
-  missing = joined-days (known 1 []) refl;
-  surplus = joined-days (known 1 (x ∷ x ∷ [])) refl;
-  second = joined-days (known 1 (x ∷ [])) (known 2 (x ∷ []));
-  no-d = joined-days (known 1 (x ∷ [])) refl;
+  differs = ap₂ _++_ (known 1 ((65 ∷ []) ∷ [])) refl;
+  missing = ap₂ _++_ (known 1 []) refl;
+  surplus = ap₂ _++_ (known 1 (x ∷ x ∷ [])) refl;
+  second = ap₂ _++_ (known 1 (x ∷ [])) (known 2 (x ∷ []));
+  no-d = ap₂ _++_ (known 1 (x ∷ [])) refl;
 }

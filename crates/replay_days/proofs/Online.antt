@@ -3,7 +3,7 @@
 use Prim.Native.Nat.{ℕ, _+_}
 use mathlib.Core.Bool.{Bool, true, false}
 use mathlib.Core.List.{List, [], _∷_, _++_, append-assoc, append-nil}
-use mathlib.Core.Path.{_≡_, refl, sym, _∙_, ap}
+use mathlib.Core.Path.{_≡_, refl, sym, _∙_, ap, ap₂}
 use Rattle.base_words.proofs.Pick.{never}
 use Rattle.text_output.specs.Output.{output}
 use Rattle.replay_days.specs.Judged.{compared, firstDiffering, inputOf, judgedFrom, linesOf, onlyD, onlyZ, recordOf, verdict}
@@ -29,9 +29,6 @@ record Agree (ls : List (List ℕ)) : Type 0 where
       → judgedFrom day (recordOf x r) ls ≡ tellsLines day (comparing left n) ls
   differs : (day : ℕ) (x : List ℕ) (r : List (List ℕ)) (n : ℕ) → Differs x r n
       → judgedFrom day (recordOf x r) ls ≡ verdict day n ++ tellsLines day differing ls
-
-joined : {a b c d : List ℕ} → a ≡ b → c ≡ d → a ++ c ≡ b ++ d
-joined e f = rw (e, f)
 
 -- where the recorded output ends
 module _ (day : ℕ) (x : List ℕ) (r : List (List ℕ)) (n : ℕ) where
@@ -69,14 +66,14 @@ module _ (l : List ℕ) (ls : List (List ℕ)) (on : Agree ls) (day : ℕ) (x : 
     recorded-by : (left : List (List ℕ)) → Left x r left n → (z m : Bool) → onlyZ l ≡ z → meets l left ≡ m
         → judgedFrom day (recordOf x r) (l ∷ ls) ≡ tellsLines day (comparing left n) (l ∷ ls)
     unfolding judgedFrom tellsLines lineTells dayAfter partAfter
-    recorded-by left at true m e f = rw e (joined (ended day x r n left at) (on .input (day + 1) []))
+    recorded-by left at true m e f = rw e (ap₂ _++_ (ended day x r n left at) (on .input (day + 1) []))
     recorded-by left at false true e f = rw (e, f) (on .recorded day x (r ++ (l ∷ [])) (restOf left) (n + 1) (more-left x r n l left at f))
     recorded-by left at false false e f = rw (e, f) (on .differs day x (r ++ (l ∷ [])) n (differs-here x r n l left at f))
 
     differs-by : Differs x r n → (z : Bool) → onlyZ l ≡ z
         → judgedFrom day (recordOf x r) (l ∷ ls) ≡ verdict day n ++ tellsLines day differing (l ∷ ls)
     unfolding judgedFrom tellsLines lineTells dayAfter partAfter
-    differs-by off true e = rw e (joined (ended-off day x r n off) (on .input (day + 1) []))
+    differs-by off true e = rw e (ap₂ _++_ (ended-off day x r n off) (on .input (day + 1) []))
     differs-by off false e = rw e (on .differs day x (r ++ (l ∷ [])) n (differs-on x r n l off))
 
 agree : (ls : List (List ℕ)) → Agree ls

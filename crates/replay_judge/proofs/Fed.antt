@@ -1,5 +1,5 @@
 -- One byte more, and one after the other. Assumes nothing.
-use Prim.Native.Nat.{ℕ, _+_, _*_, _≤_, _<_}
+use Prim.Native.Nat.{ℕ, _+_, _≤_, _<_}
 use native.Mathlib.Numerals.{add-one}
 use native.Mathlib.Omega.{arith}
 use borrow.Author.Tests.{eq-eqb, ne-eqb}
@@ -7,6 +7,8 @@ use mathlib.Core.List.{List}
 use mathlib.Core.Path.{_≡_}
 use lib.ListN.{getD, length, length-take, take}
 use lib.Seq.{take-all, take-suc}
+use Rattle.base_places.specs.Places.{portion}
+use Rattle.base_places.specs.Places as Places
 use Rattle.text_digits.proofs.Lengths.{exact}
 use Rattle.text_digits.proofs.Then.{nothing, then}
 use Rattle.replay_days.specs.Going.{Going, byteTells, fed, feeds, tells}
@@ -76,18 +78,10 @@ module _ (j : Judge) (input out told s : List ℕ) where
   all-fed i h k f = let e : i ≡ length s = omega arith in rw (← e) (rw (take-all i s k) at f)
 
 -- with 64 bytes for each byte there is room for all that they tell
-module _ (j : Judge) (input out told portion : List ℕ) (n : ℕ) (room : length portion * 64 ≤ length told) {r : Turned}
-    {input′ out′ told′ : List ℕ} where
-  whole-told : (s : List ℕ) → length s ≤ length portion → Portion j input out told s r input′ out′ told′ → Read j input out told s r input′ out′ told′
-  whole-told s h p = record {
-    turns = p;
-    whole = λ g st few. exact (p .tells .wrote g st few) (omega (arith, tells-short g s, room)) .1;
-  }
-
-  pub front-told : n < length portion → Portion j input out told (take n portion) r input′ out′ told′
-      → Read j input out told (take n portion) r input′ out′ told′
-  front-told h p = whole-told (take n portion) (omega (arith, length-take n portion)) p
-
-  pub all-told : length portion ≤ n → Portion j input out told portion r input′ out′ told′
-      → Read j input out told (take n portion) r input′ out′ told′
-  all-told h p = rw (take-all n portion h) (whole-told portion (omega arith) p)
+pub whole-told : {j : Judge} {input out told s : List ℕ} {r : Turned} {input′ out′ told′ : List ℕ} (bytes : List ℕ) (n : ℕ)
+    → Portion j input out told s r input′ out′ told′ → s ≡ take n bytes → length bytes ≡ portion → length told ≡ Places.told
+    → Read j input out told (take n bytes) r input′ out′ told′
+whole-told {j} {input} {out} {told} bytes n p e long room =
+    let short : length (take n bytes) ≤ portion = omega (arith, length-take n bytes) in
+    let q : Portion j input out told (take n bytes) _ _ _ _ = rw e at p in
+    record { turns = q; whole = λ g st few. exact (q .tells .wrote g st few) (omega (arith, tells-short g (take n bytes))) .1 }

@@ -18,10 +18,10 @@ use Rattle.replay_days.specs.Going.{Going, endTells, feeds, finish, lineEnded, 
 use Rattle.replay_days.proofs.Bytes.{byte-by-byte}
 use Rattle.replay_days.proofs.Portions.{days-few, finish-short}
 use Rattle.replay_compare.specs.Spots.{largest, endNumber, shapeOf}
-use Rattle.replay_judge.specs.Stands.{Begins, EndsDay, EndsLast, EndsLine, Finishes, Held, Portion, Stands, StandsPart, Tells}
+use Rattle.replay_judge.specs.Carried.{isEmpty}
+use Rattle.replay_judge.specs.Stands.{Begins, EndsDay, EndsLine, Finishes, Held, Portion, Stands, StandsPart, Tells}
 use Rattle.replay_judge.specs.declared.Judge.{Judge}
-use Rattle.replay_compare.specs.declared.LineSoFar.{LineSoFar}
-use Rattle.replay_compare.specs.declared.LineSoFar.the-variants.{Empty, More, One}
+use Rattle.replay_compare.specs.declared.LineSoFar.the-variants.{Empty}
 use Rattle.replay_judge.specs.declared.Part.{Part}
 use Rattle.replay_judge.specs.declared.Part.the-variants.{Comparing, Differing, Input}
 use Rattle.replay_compare.specs.declared.Spot.{Spot}
@@ -90,22 +90,7 @@ module _ (j : Judge) (input told : List ℕ) (at : ℕ) where
       ends-day Differing e h
       (λ out q s. in-differing (λ q. Wrote told at (endTells (j .day) q) told at) input out [] (nothing told at h) q s)
 
--- a last line without byte 10, and then the end
-pub line-then-end : (j : Judge) (input out told : List ℕ) (at : ℕ) {r : Turned} {input′ out′ told1 told2 : List ℕ} {at′ : ℕ}
-    → length told1 ≡ length told → EndsLine j input out told at r input′ out′ told1 → EndsDay (r .judge) input′ told1 (r .at) told2 at′
-    → EndsLast j input out told at told2 at′
-unfolding lineEnded
-line-then-end j input out told at {r} {input′} {out′} same e d = record {
-  wrote = λ g s few. then (e .tells .wrote g s few) (d .wrote out′ (lineEnded g) (e .goes g s few) refl);
-  within = omega (arith, d .within, same);
-}
-
 -- whether there is a last line without byte 10
-abbrev isEmpty : LineSoFar → Bool
-isEmpty Empty = true
-isEmpty (One b) = false
-isEmpty More = false
-
 shape-empty : (l : List ℕ) → eqb (length l) 0 ≡ isEmpty (shapeOf l)
 shape-empty [] = refl
 shape-empty (b ∷ []) = refl
@@ -119,27 +104,27 @@ none-of [] z = refl
 none-of (b ∷ l) z = never (sym z ∙ some [] b l)
 
 module _ (j : Judge) (input out told : List ℕ) (at : ℕ) {told′ : List ℕ} {at′ : ℕ} where
-  pub no-last-line : j .line ≡ Empty → EndsDay j input told at told′ at′ → Tells j input out told at 1 finish told′ at′
+  pub no-last-line : {t : Bool} → t ≡ isEmpty (j .line) → t ≡ true → EndsDay j input told at told′ at′
+      → Tells j input out told at 1 finish told′ at′
   unfolding finish
-  no-last-line e d = record {
+  no-last-line e f d = record {
     wrote = λ g s few.
-        let z : eqb (length (g .line)) 0 ≡ true = rw e at (empty-by j input out g s) in
+        let z : eqb (length (g .line)) 0 ≡ true = empty-by j input out g s ∙ sym e ∙ f in
         rw z (d .wrote out g s (none-of (g .line) z));
     within = d .within;
   }
 
-  last-line : isEmpty (j .line) ≡ false → EndsLast j input out told at told′ at′ → Tells j input out told at 1 finish told′ at′
-  unfolding finish
-  last-line e d = record {
-    wrote = λ g s few. let z : eqb (length (g .line)) 0 ≡ false = empty-by j input out g s ∙ e in rw z (d .wrote g s few);
-    within = d .within;
+  -- the line, and then the end
+  pub last-line : {t : Bool} {r : Turned} {input′ out′ told1 : List ℕ} → t ≡ isEmpty (j .line) → t ≡ false → length told1 ≡ length told
+      → EndsLine j input out told at r input′ out′ told1 → EndsDay (r .judge) input′ told1 (r .at) told′ at′
+      → Tells j input out told at 1 finish told′ at′
+  unfolding finish lineEnded
+  last-line {out′ = out′} e f same ends d = record {
+    wrote = λ g s few.
+        let z : eqb (length (g .line)) 0 ≡ false = empty-by j input out g s ∙ sym e ∙ f in
+        rw z (then (ends .tells .wrote g s few) (d .wrote out′ (lineEnded g) (ends .goes g s few) refl));
+    within = omega (arith, d .within, same);
   }
-
-  pub last-one : {b : ℕ} → j .line ≡ One b → EndsLast j input out told at told′ at′ → Tells j input out told at 1 finish told′ at′
-  last-one e d = last-line (rw e) d
-
-  pub last-more : j .line ≡ More → EndsLast j input out told at told′ at′ → Tells j input out told at 1 finish told′ at′
-  last-more e d = last-line (rw e) d
 
 pub finishes : (j : Judge) (input out told : List ℕ) {told′ : List ℕ} {at′ : ℕ} → 128 ≤ length told
     → Tells j input out told 0 1 finish told′ at′ → Finishes j input out told told′ at′
@@ -151,9 +136,9 @@ first-day = refl
 
 -- a whole file: a portion and then the end
 pub file-judged : (file input out told : List ℕ) {j : Judge} {r : Turned} {input′ out′ told1 told2 : List ℕ} {at′ : ℕ}
-    → length file < 9223372036854775808 → Begins j → Portion j input out told file r input′ out′ told1
-    → Tells (r .judge) input′ out′ told1 (r .at) 1 finish told2 at′ → Wrote told 0 (judged file) told2 at′
-file-judged file input out told few b p t =
+    → Tells (r .judge) input′ out′ told1 (r .at) 1 finish told2 at′ → Portion j input out told file r input′ out′ told1 → Begins j
+    → length file < 9223372036854775808 → Wrote told 0 (judged file) told2 at′
+file-judged file input out told t p b few =
     let one : start .day + length file ≤ largest = omega (arith, first-day) in
     let s = b input out in
     rw (← byte-by-byte file)

@@ -8,7 +8,8 @@ use lib.Dec.{eqb}
 use lib.ListN.{length, length-take, take}
 use Rattle.base_words.proofs.Pick.{never}
 use Rattle.text_digits.specs.Wrote.{Wrote}
-use Rattle.text_prefix.specs.Prefix.{enough}
+use Rattle.base_places.specs.Places.{deciding}
+use Rattle.base_places.specs.Places as Places
 use Rattle.text_program.specs.Answered.{Answered}
 use Rattle.text_output.specs.Output.{output}
 use Rattle.text_output.proofs.Bounds.{output-fits, prefix-decides-output}
@@ -56,15 +57,15 @@ module _ (x out′ : List ℕ) (len : ℕ) where
       }
 
 module _ (line : LineSoFar) (n : ℕ) (input out : List ℕ) where
-  pub at-d : {t : Bool} {out′ : List ℕ} {len : ℕ} → t ≡ holdsOnly line 68 → t ≡ true → length input ≡ suc enough
-      → Answered (take (n - 1) input) out out′ len
+  pub at-d : {t : Bool} {front out′ : List ℕ} {k len : ℕ} → t ≡ holdsOnly line 68 → t ≡ true → length input ≡ Places.held
+      → k ≡ n - 1 → front ≡ take k input → Answered front out out′ len
       → EndsInput line n input out (Comparing (record { len = len; start = 0; at = 0; on = true; number = 1 })) input out′
   unfolding partAfter StandsPart
-  at-d {t} {out′} {len} e f long v x l is h =
+  at-d {t} {front} {out′} {k} {len} e f long less cut v x l is h =
       let d : onlyD l ≡ true = sym (is-d l is e) ∙ f in
       let one : l ≡ 68 ∷ [] = d-is l d in
-      let front : take (n - 1) input ≡ take enough x = held-front enough x input n 68 long (rw one at h) in
-      let same-output : output (take (n - 1) input) ≡ output x = rw front (prefix-decides-output x) in
+      let decides : front ≡ take deciding x = cut ∙ rw less (held-front deciding x input n 68 (omega arith) (rw one at h)) in
+      let same-output : output front ≡ output x = rw decides (prefix-decides-output x) in
       rw d (fresh x out′ len (rw same-output at (v .many)) (rw same-output at (v .told)))
 
   pub one-line-more : {t : Bool} {input′ : List ℕ} {held : ℕ} → t ≡ holdsOnly line 68 → t ≡ false → Wrote input n (10 ∷ []) input′ held

@@ -1,10 +1,10 @@
 -- The steps of the program on what it carries, for the functions of this crate. Assumes nothing.
 use Prim.Native.Nat.{ℕ}
-use mathlib.Core.Bool.{true}
+use mathlib.Core.Bool.{Bool, true, false}
 use Rattle.base_words.specs.Choice.{if_then_else_}
 use Rattle.replay_compare.specs.Spots.{holdsOnly, oneMore}
 use Rattle.replay_compare.specs.declared.LineSoFar.{LineSoFar}
-use Rattle.replay_compare.specs.declared.LineSoFar.the-variants.{Empty}
+use Rattle.replay_compare.specs.declared.LineSoFar.the-variants.{Empty, More, One}
 use Rattle.replay_compare.specs.declared.Spot.{Spot}
 use Rattle.replay_judge.specs.declared.Part.the-variants.{Comparing, Differing, Input}
 use Rattle.replay_judge.specs.declared.Turned.{Turned}
@@ -27,3 +27,9 @@ nextLine day p start at = record {
 abbrev pub differingAfter : ℕ → LineSoFar → ℕ → Turned
 differingAfter day line at =
     if holdsOnly line 90 then nextDay day at else record { judge = record { day = day; line = Empty; part = Differing }; at = at }
+
+-- no byte has been read of a line
+abbrev pub isEmpty : LineSoFar → Bool
+isEmpty Empty = true
+isEmpty (One b) = false
+isEmpty More = false

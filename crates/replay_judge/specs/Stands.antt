@@ -12,7 +12,6 @@ use Rattle.replay_days.specs.Going.{
   endTells,
   feeds,
   finish,
-  lastSays,
   lineEnded,
   lineSays,
   partAfter,
@@ -91,10 +90,6 @@ Begins j = (input out : List ℕ) → Stands j input out start
 pub record EndsDay (j : Judge) (input told : List ℕ) (at : ℕ) (told′ : List ℕ) (at′ : ℕ) : Type 0 where
   pub wrote : (out : List ℕ) (g : Going) → Stands j input out g → g .line ≡ [] → Wrote told at (endTells (g .day) (g .part)) told′ at′
   pub within : at′ ≤ length told
-
--- the file ended with a line that lacks byte 10
-abbrev pub EndsLast : Judge → List ℕ → List ℕ → List ℕ → ℕ → List ℕ → ℕ → Type 0
-EndsLast j input out told at told′ at′ = Tells j input out told at 1 lastSays told′ at′
 
 -- the file ended, and all that its end tells was told
 pub record Finishes (j : Judge) (input out told told′ : List ℕ) (at′ : ℕ) : Type 0 where

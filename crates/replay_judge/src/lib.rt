@@ -1,6 +1,10 @@
 // A file of recorded nights, judged as its bytes come, in portions of any length: what a program carries from one
 // portion to the next, and what it tells of each day. Held are as much of a day's input as decides its output, and
 // that output.
+use base_places::HELD;
+use base_places::LONGEST_OUTPUT;
+use base_places::PORTION;
+use base_places::TOLD;
 use replay_compare::LineSoFar;
 use replay_compare::Meeting;
 use replay_compare::Spot;
@@ -11,15 +15,16 @@ use replay_compare::tell;
 use replay_compare::tell_verdict;
 use text_digits::put;
 use text_program::answer_text;
+use text_program::front;
 ghost use mathlib.Core.Path.{_≡_};
-ghost use Prim.Native.Nat.{_≤_, _-_, _*_};
+ghost use Prim.Native.Nat.{_≤_, _<_, _-_};
 ghost use lib.ListN.{length, take};
 ghost use Rattle.text_digits.specs.Wrote.{Wrote};
-ghost use Rattle.text_program.specs.Answered.{Answered};
+ghost use Rattle.base_places.specs.Places.{told as Places·told};
 ghost use Rattle.replay_days.specs.Judged.{judged};
 ghost use Rattle.replay_days.specs.Going.{byteTells, fed, finish};
-ghost use Rattle.replay_judge.specs.Carried.{differingAfter, nextDay, nextLine};
-ghost use Rattle.replay_judge.specs.Stands.{Begins, EndsComparing, EndsDay, EndsInput, EndsLast, EndsLine, Finishes, GoesOn, Portion, Read, Tells, Turns};
+ghost use Rattle.replay_judge.specs.Carried.{differingAfter, isEmpty, nextDay, nextLine};
+ghost use Rattle.replay_judge.specs.Stands.{Begins, EndsComparing, EndsDay, EndsInput, EndsLine, Finishes, GoesOn, Portion, Read, Tells, Turns};
 
 // In a day's input, of which so many bytes are held; in its recorded output; or there after a line that differs.
 pub enum Part {
@@ -47,24 +52,19 @@ fn one_less(n: usize) -> usize
     if n == 0 { 0 } else { n - 1 }
 }
 
-// The output of what is held of an input, but for the last byte, which is the D.
-fn answer_input(input: &[u8], n: usize, out: &mut [u8; 21100]) -> usize
-    ensures { λ r. ⌜ Answered (take (n - 1) (now (input .entry))) (now (out .entry)) (now (out .exit)) r ⌝ }
-{
-    let k = one_less(n);
-    if k < input.len() {
-        answer_text(&input[..k], out)
-    } else {
-        answer_text(input, out)
-    }
-}
-
-// A line ended in a day's input: the D, after which the output is there to compare with, or one line more.
-fn end_input(line: LineSoFar, n: usize, input: &mut [u8; 33314], out: &mut [u8; 21100]) -> Part
+// A line ended in a day's input: the D, after which the output of what is held before it is there to compare with, or
+// one line more.
+fn end_input(
+    line: LineSoFar,
+    n: usize,
+    input: &mut [u8; HELD],
+    out: &mut [u8; LONGEST_OUTPUT],
+) -> Part
     ensures { λ r. ⌜ EndsInput line n (now (input .entry)) (now (out .entry)) r (now (input .exit)) (now (out .exit)) ⌝ }
 {
     if holds_only(line, 68) {
-        let len = answer_input(&*input, n, &mut *out);
+        let k = one_less(n);
+        let len = answer_text(front(&*input, k), &mut *out);
         Part::Comparing(Spot {
             len: len,
             start: 0,
@@ -175,8 +175,8 @@ fn end_differing(day: usize, line: LineSoFar, at: usize) -> Turned
 // A line ended.
 fn end_line(
     j: Judge,
-    input: &mut [u8; 33314],
-    out: &mut [u8; 21100],
+    input: &mut [u8; HELD],
+    out: &mut [u8; LONGEST_OUTPUT],
     told: &mut [u8],
     at: usize,
 ) -> Turned
@@ -245,8 +245,8 @@ fn go_on(j: Judge, b: u8, input: &mut [u8], out: &[u8]) -> Judge
 fn judge_byte(
     j: Judge,
     b: u8,
-    input: &mut [u8; 33314],
-    out: &mut [u8; 21100],
+    input: &mut [u8; HELD],
+    out: &mut [u8; LONGEST_OUTPUT],
     told: &mut [u8],
     at: usize,
 ) -> Turned
@@ -276,16 +276,18 @@ pub fn begin() -> Judge
     }
 }
 
-// A portion of a file: what it tells stands at the front of `told`, as far as there is room.
+// A portion of a file, no longer than a machine's memory: what it tells stands at the front of `told`, as far as there is
+// room.
 fn judge_portion(
     j: Judge,
     portion: &[u8],
-    input: &mut [u8; 33314],
-    out: &mut [u8; 21100],
+    input: &mut [u8; HELD],
+    out: &mut [u8; LONGEST_OUTPUT],
     told: &mut [u8],
 ) -> Turned
     ensures { λ r. ⌜ Portion j (now (input .entry)) (now (out .entry)) (now (told .entry)) (now (portion .entry)) r
         (now (input .exit)) (now (out .exit)) (now (told .exit)) ⌝ }
+    ensures { λ r. ⌜ length (now (portion .entry)) < 9223372036854775808 ⌝ }
 {
     let mut t = Turned { judge: j, at: 0 };
     let mut i = 0;
@@ -298,40 +300,20 @@ fn judge_portion(
     t
 }
 
-// The first n bytes of a portion, all of it where n is past its end.
-fn judge_front(
-    j: Judge,
-    portion: &[u8],
-    n: usize,
-    input: &mut [u8; 33314],
-    out: &mut [u8; 21100],
-    told: &mut [u8],
-) -> Turned
-    requires { ⌜ length (now portion) * 64 ≤ length (now told) ⌝ }
-    ensures { λ r. ⌜ Read j (now (input .entry)) (now (out .entry)) (now (told .entry)) (take n (now (portion .entry))) r
-        (now (input .exit)) (now (out .exit)) (now (told .exit)) ⌝ }
-{
-    if n < portion.len() {
-        judge_portion(j, &portion[..n], input, out, told)
-    } else {
-        judge_portion(j, portion, input, out, told)
-    }
-}
-
 // A portion of a file, of which n bytes were read: what it tells stands at the front of `told`, which has room for all.
 pub fn judge_read(
     j: Judge,
-    portion: &[u8; 1024],
+    portion: &[u8; PORTION],
     n: usize,
-    input: &mut [u8; 33314],
-    out: &mut [u8; 21100],
-    told: &mut [u8; 65536],
+    input: &mut [u8; HELD],
+    out: &mut [u8; LONGEST_OUTPUT],
+    told: &mut [u8; TOLD],
 ) -> Turned
     ensures { λ r. ⌜ Read j (now (input .entry)) (now (out .entry)) (now (told .entry)) (take n (now (portion .entry))) r
         (now (input .exit)) (now (out .exit)) (now (told .exit)) ⌝ }
-    ensures { λ r. ⌜ r .at ≤ 65536 ⌝ }
+    ensures { λ r. ⌜ r .at ≤ Places·told ⌝ }
 {
-    judge_front(j, portion, n, input, out, told)
+    judge_portion(j, front(portion, n), input, out, told)
 }
 
 // The end of a file after whole lines.
@@ -351,28 +333,21 @@ fn end_day(j: Judge, input: &[u8], told: &mut [u8], at: usize) -> usize
     }
 }
 
-// The last line of a file, without byte 10, and the end.
-fn end_last(
-    j: Judge,
-    input: &mut [u8; 33314],
-    out: &mut [u8; 21100],
-    told: &mut [u8],
-    at: usize,
-) -> usize
-    requires { ⌜ at ≤ length (now told) ⌝ }
-    ensures { λ r. ⌜ EndsLast j (now (input .entry)) (now (out .entry)) (now (told .entry)) at (now (told .exit)) r ⌝ }
+fn is_empty(line: LineSoFar) -> bool
+    ensures { λ r. ⌜ r ≡ isEmpty line ⌝ }
 {
-    let t = end_line(j, &mut *input, out, &mut *told, at);
-    let judge = t.judge;
-    let after = t.at;
-    end_day(judge, &*input, told, after)
+    match line {
+        LineSoFar::Empty => true,
+        LineSoFar::One(_) => false,
+        LineSoFar::More => false,
+    }
 }
 
 // The end of a file: what stands after the last byte 10, if anything, is a line too.
 fn end_file(
     j: Judge,
-    input: &mut [u8; 33314],
-    out: &mut [u8; 21100],
+    input: &mut [u8; HELD],
+    out: &mut [u8; LONGEST_OUTPUT],
     told: &mut [u8],
     at: usize,
 ) -> usize
@@ -380,50 +355,37 @@ fn end_file(
     ensures { λ r. ⌜ Tells j (now (input .entry)) (now (out .entry)) (now (told .entry)) at 1 finish (now (told .exit)) r ⌝ }
 {
     let line = j.line;
-    match line {
-        LineSoFar::Empty => end_day(j, &*input, told, at),
-        LineSoFar::One(_) => end_last(j, input, out, told, at),
-        LineSoFar::More => end_last(j, input, out, told, at),
+    if is_empty(line) {
+        return end_day(j, &*input, told, at);
     }
-}
-
-// The end of a file, its place in `told` at the front.
-fn end_front(j: Judge, input: &mut [u8; 33314], out: &mut [u8; 21100], told: &mut [u8]) -> usize
-    requires { ⌜ 128 ≤ length (now told) ⌝ }
-    ensures { λ r. ⌜ Finishes j (now (input .entry)) (now (out .entry)) (now (told .entry)) (now (told .exit)) r ⌝ }
-{
-    end_file(j, input, out, told, 0)
+    let t = end_line(j, &mut *input, out, &mut *told, at);
+    let judge = t.judge;
+    let after = t.at;
+    end_day(judge, &*input, told, after)
 }
 
 // The end of a file that came in portions: what it tells stands at the front of `told`, which has room for all.
 pub fn judge_end(
     j: Judge,
-    input: &mut [u8; 33314],
-    out: &mut [u8; 21100],
-    told: &mut [u8; 65536],
+    input: &mut [u8; HELD],
+    out: &mut [u8; LONGEST_OUTPUT],
+    told: &mut [u8; TOLD],
 ) -> usize
     ensures { λ r. ⌜ Finishes j (now (input .entry)) (now (out .entry)) (now (told .entry)) (now (told .exit)) r ⌝ }
-    ensures { λ r. ⌜ r ≤ 65536 ⌝ }
+    ensures { λ r. ⌜ r ≤ Places·told ⌝ }
 {
-    end_front(j, input, out, told)
-}
-
-// A whole file, with buffers for a day's input and its output.
-fn judge_with(file: &[u8], input: &mut [u8; 33314], out: &mut [u8; 21100], told: &mut [u8]) -> usize
-    ensures { λ r. ⌜ Wrote (now (told .entry)) 0 (judged (now (file .entry))) (now (told .exit)) r ⌝ }
-{
-    let j = begin();
-    let t = judge_portion(j, file, &mut *input, &mut *out, &mut *told);
-    let judge = t.judge;
-    let at = t.at;
-    end_file(judge, input, out, told, at)
+    end_file(j, input, out, told, 0)
 }
 
 // A whole file in one piece: what is written of it, as far as there is room.
 pub fn judge_file(file: &[u8], told: &mut [u8]) -> usize
     ensures { λ r. ⌜ Wrote (now (told .entry)) 0 (judged (now (file .entry))) (now (told .exit)) r ⌝ }
 {
-    let mut input = [0; 33314];
-    let mut out = [0; 21100];
-    judge_with(file, &mut input, &mut out, told)
+    let mut input = [0; HELD];
+    let mut out = [0; LONGEST_OUTPUT];
+    let j = begin();
+    let t = judge_portion(j, file, &mut input, &mut out, &mut *told);
+    let judge = t.judge;
+    let at = t.at;
+    end_file(judge, &mut input, &mut out, told, at)
 }

@@ -2,6 +2,8 @@
 // text_program::answer_front; here are the buffers, one that holds as much of any input as decides its output and one
 // that holds any output, and what is said on standard error where the input cannot be read to its end or the
 // output not written.
+use base_places::DECIDING;
+use base_places::LONGEST_OUTPUT;
 use libc::STDERR_FILENO;
 use libc::STDIN_FILENO;
 use libc::STDOUT_FILENO;
@@ -15,7 +17,7 @@ fn read_input(input: &mut [u8]) -> usize {
 
 // Whether the input was read to its end, or as far as it decides: one more read tells an end from a failure.
 fn read_whole(n: usize) -> bool {
-    if n == 33313 {
+    if n == DECIDING {
         return true;
     }
     let mut next = [0; 1];
@@ -31,7 +33,7 @@ fn write_out(out: &[u8], k: usize)
     }
 }
 
-fn answer(input: &mut [u8; 33313], out: &mut [u8; 21100]) {
+fn answer(input: &mut [u8; DECIDING], out: &mut [u8; LONGEST_OUTPUT]) {
     let n = read_input(&mut *input);
     if !read_whole(n) {
         io::write_all(
@@ -45,7 +47,7 @@ fn answer(input: &mut [u8; 33313], out: &mut [u8; 21100]) {
 }
 
 fn main() {
-    let mut input = [0; 33313];
-    let mut out = [0; 21100];
+    let mut input = [0; DECIDING];
+    let mut out = [0; LONGEST_OUTPUT];
     answer(&mut input, &mut out);
 }

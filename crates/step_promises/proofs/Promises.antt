@@ -1,15 +1,23 @@
 -- The statements of specs/Promises.antt. Assumes nothing.
-use Prim.Native.Nat.{ℕ}
+use Prim.Native.Nat.{ℕ, _≤_}
+use native.Mathlib.Nat.{le-trans}
+use native.Mathlib.Omega.{arith}
 use mathlib.Core.Path.{_≡_, refl, sym, ap, _∙_}
 use mathlib.Core.Bool.{Bool, true, false, cond}
 use mathlib.Core.List.{List, [], _∷_}
-use borrow.Author.Tests.{lt-ltb}
+use borrow.Author.Tests.{eqb-false, eqb-true, lt-ltb}
+use lib.Dec.{eqb}
 use Rattle.elem_velocity.specs.declared.SolverVel.{SolverVel}
 use Rattle.elem_velocity.specs.declared.Vels.{Vels}
 use Rattle.step_kinds.proofs.Keeps.{no-branch, routine-keeps, same-head}
 use Rattle.step_contact.specs.Contact.{isFloor}
 use Rattle.step_kinds.proofs.Places.{at-a, at-b}
-use Rattle.step_kinds.specs.Table.{routine, stores}
+use Rattle.elem_block.specs.Block.{branchNumber}
+use Rattle.elem_block.specs.declared.Branch.{Branch}
+use Rattle.elem_block.specs.declared.Branch.the-variants.{Both, Degraded, Kept, Neither, OnlyA, OnlyB}
+use Rattle.elem_normal.specs.Pair.{pair}
+use Rattle.step_kinds.specs.Kinds.{pairOf}
+use Rattle.step_kinds.specs.Table.{kindOf, kinds, routine, stores}
 use Rattle.step_contact.specs.declared.Contact.{Contact}
 use Rattle.step_contact.specs.declared.ContactHead.{ContactHead}
 use Rattle.step_kinds.specs.declared.ContactSolved.{ContactSolved}
@@ -22,7 +30,7 @@ use Rattle.base_refusals.specs.Distinct.{distinct, stands}
 use Rattle.base_words.proofs.Said.{none-l}
 use Rattle.base_refusals.proofs.Chain.{none}
 use Rattle.base_refusals.proofs.Exact.{None, exactly, left, taken}
-use Rattle.step_promises.specs.Promises.{BranchOfPairs, DistinctNumbers, ExactAnswers, FiniteDone, FloorKept, SameHead, Untouched}
+use Rattle.step_promises.specs.Promises.{BranchOfPairs, DistinctNumbers, ExactAnswers, FewBranches, FiniteDone, FloorKept, SameHead, Untouched}
 use Rattle.step_rules.proofs.Chain.{not-both}
 use Rattle.step_rules.specs.Step.{answer, asRead, asWritten, asked, branch, checks, conditions, firstOr, holdsOf, step, tried, writes, writtenVels}
 use Rattle.step_rules.specs.declared.Outcome.{Outcome}
@@ -165,19 +173,42 @@ finite-done c kind v rows s e =
       at-b = rw (k .contact) (λ below. at-points at-b (lt-ltb 1 (m .contact .head .count) below));
     }
 
--- a refusal has no branch, and the routine of another kind has none
-refusal-or-made : (cs : List Condition) (made : ContactSolved) → made .branch ≡ 0 → branch (firstOr cs made) ≡ 0
+-- a refusal has no branch, and a done step the routine's
+refusal-or-made : (cs : List Condition) (made : ContactSolved) → branch (firstOr cs made) ≤ made .branch
 unfolding firstOr
-refusal-or-made [] made none = none
-refusal-or-made (c ∷ cs) made none = by-case (c .holds) (refusal-or-made cs made none)
+refusal-or-made [] made = omega arith
+refusal-or-made (c ∷ cs) made = by-case (c .holds) (refusal-or-made cs made)
   where
-    by-case : (b : Bool) → branch (firstOr cs made) ≡ 0 → branch (cond b (Refused (c .number)) (firstOr cs made)) ≡ 0
-    by-case true rest = refl
+    by-case : (b : Bool) → branch (firstOr cs made) ≤ made .branch → branch (cond b (Refused (c .number)) (firstOr cs made)) ≤ made .branch
+    by-case true rest = omega arith
     by-case false rest = rest
 
-pub branch-of-pairs : BranchOfPairs
+routine-branch : (c : Contact) (kind : ℕ) (v : Vels) (rows : ℕ) → branch (step c kind v rows) ≤ routine kind c (asRead (c .head) v) .branch
 unfolding step tried
-branch-of-pairs c kind v rows other =
+routine-branch c kind v rows =
     let seen = asRead (c .head) v in
-    same-branch (c .head) v (tried c kind seen rows)
-    ∙ refusal-or-made (conditions c kind seen rows) (routine kind c seen) (no-branch c seen kind other)
+    rw (same-branch (c .head) v (tried c kind seen rows)) (refusal-or-made (conditions c kind seen rows) (routine kind c seen))
+
+pub branch-of-pairs : BranchOfPairs
+branch-of-pairs c kind v rows other = omega (arith, routine-branch c kind v rows, no-branch c (asRead (c .head) v) kind other)
+
+one-of-six : (b : Branch) → branchNumber b ≤ 6
+one-of-six Both = omega arith
+one-of-six OnlyA = omega arith
+one-of-six OnlyB = omega arith
+one-of-six Neither = omega arith
+one-of-six Kept = omega arith
+one-of-six Degraded = omega arith
+
+pair-branch : (c : Contact) (v : Vels) → routine 4 c v .branch ≤ 6
+unfolding routine kindOf kinds pairOf
+pair-branch c v =
+    let h = c .head in
+    one-of-six (pair (c .a .«normal_part») (c .b .«normal_part») (h .dir1) (h .im1) (h .im2) (h .k12) (h .flag) v .branch)
+
+pub few-branches : FewBranches
+few-branches c kind v rows = by-kind (eqb kind 4) refl
+  where
+    by-kind : (b : Bool) → eqb kind 4 ≡ b → branch (step c kind v rows) ≤ 6
+    by-kind true e = rw (eqb-true kind 4 e) (le-trans (routine-branch c 4 v rows) (pair-branch c (asRead (c .head) v)))
+    by-kind false e = omega (arith, branch-of-pairs c kind v rows (eqb-false kind 4 e))

@@ -1,6 +1,6 @@
 -- What every step keeps to: the sentences of document 01 and of demand 1 that speak of a single step, as statements about `step`.
 -- Each is proved in proofs/Promises.antt. Assumes nothing.
-use Prim.Native.Nat.{ℕ, _<_}
+use Prim.Native.Nat.{ℕ, _≤_, _<_}
 use mathlib.Core.Path.{_≡_}
 use mathlib.Core.Bool.{true, false}
 use Rattle.elem_leaves.specs.Finite.{finite}
@@ -30,6 +30,10 @@ DistinctNumbers = (c : Contact) (kind : ℕ) (v : Vels) (rows : ℕ) → distinc
 -- "0 for any refusal and for every kind but 4"
 abbrev pub BranchOfPairs : Type 0
 BranchOfPairs = (c : Contact) (kind : ℕ) (v : Vels) (rows : ℕ) → (kind ≡ 4 → ⊥) → branch (step c kind v rows) ≡ 0
+
+-- a branch is one of six, or 0
+abbrev pub FewBranches : Type 0
+FewBranches = (c : Contact) (kind : ℕ) (v : Vels) (rows : ℕ) → branch (step c kind v rows) ≤ 6
 
 -- what holds of every done step
 abbrev pub OfDone : (Contact → ℕ → Vels → ContactSolved → Type 0) → Type 0

@@ -10,6 +10,7 @@ use lib.Dec.{eqb, leb, ltb}
 use lib.ListN.{getD, length}
 use Rattle.base_words.specs.Choice.{if_then_else_}
 use Rattle.base_words.proofs.Pick.{never}
+use Rattle.base_words.proofs.Said.{all-l, all-r}
 use Rattle.text_digits.specs.declared.Number.{Number}
 use Rattle.text_digits.specs.declared.Number.the-variants.{Is, No}
 use Rattle.text_digits.specs.Digits.{decOf, digitOf, hexOf, numberFrom}
@@ -29,10 +30,6 @@ module _ {x : Number} {n : ℕ} where
   second true e = none-is e
   second false e = (refl, e)
 
-held : (p q : Bool) → (p && q) ≡ true → (p ≡ true) × (q ≡ true)
-held true q e = (refl, e)
-held false q e = (e, cc)
-
 -- one digit, and the rest after it
 pub record Digit (base limit m b : ℕ) (s : List ℕ) (n : ℕ) : Type 0 where
   pub digit : digitOf b < base
@@ -43,8 +40,11 @@ pub came-digit : (base limit m b : ℕ) (s : List ℕ) (n : ℕ) → numberFrom 
 unfolding numberFrom
 came-digit base limit m b s n e =
     let both = first (ltb (digitOf b) base && leb (m * base + digitOf b) limit) e in
-    let tests = held (ltb (digitOf b) base) (leb (m * base + digitOf b) limit) (both .0) in
-    record { digit = ltb-true _ _ (tests .0); inside = leb-true _ _ (tests .1); rest = both .1 }
+    record {
+      digit = ltb-true _ _ (all-l (ltb (digitOf b) base) (leb (m * base + digitOf b) limit) (both .0));
+      inside = leb-true _ _ (all-r (ltb (digitOf b) base) (leb (m * base + digitOf b) limit) (both .0));
+      rest = both .1;
+    }
 
 pub came-end : (base limit m n : ℕ) → numberFrom base limit m [] ≡ Is n → m ≡ n
 unfolding numberFrom

@@ -1,14 +1,35 @@
 -- How long the fields are, and that what fits is written whole. Assumes nothing.
-use Prim.Native.Nat.{ℕ, zero, suc, _+_, _/_, _≤_, _<_}
+use Prim.Native.Nat.{ℕ, zero, suc, _+_, _/_, _^_, _≤_, _<_}
 use native.Mathlib.Decide.{decLt}
+use native.Mathlib.Nat.{div-lt-iff-lt-mul, pow-suc}
 use native.Mathlib.Omega.{arith}
 use mathlib.Core.Path.{_≡_, refl}
 use mathlib.Core.List.{List}
 use lib.ListN.{drop, length, length-append, take}
 use lib.Seq.{sets-eq, take-at}
+use Rattle.base_places.specs.Places.{floatBytes, numberBytes}
+use Rattle.text_digits.specs.FiveDigits.{FiveDigits}
 use Rattle.text_digits.specs.Digits.{decBytes, decDigits, decField, hexBytes, hexDigits, hexField}
 use Rattle.text_digits.specs.Wrote.{Wrote}
 use Rattle.text_digits.proofs.Written.{dec-one, dec-more}
+
+-- a number below a power of ten has no more digits than the power says
+few-digits : (j k n : ℕ) → n < 10 ^ suc k → length (decDigits j n) ≤ suc k
+unfolding decDigits
+few-digits zero k n h = omega arith
+few-digits (suc j) k n h = side k h (decLt n 10) (λ i p. few-digits j i (n / 10) p)
+  where
+    side : (k : ℕ) → n < 10 ^ suc k → Dec (n < 10) → ((i : ℕ) → n / 10 < 10 ^ suc i → length (decDigits j (n / 10)) ≤ suc i)
+        → length (decDigits (suc j) n) ≤ suc k
+    side k h (yes p) before = rw (← dec-one j n p) (omega arith)
+    side zero h (no p) before = absurd (p h)
+    side (suc i) h (no p) before =
+        let less : n / 10 < 10 ^ suc i = div-lt-iff-lt-mul {k = 10} (omega arith) .1 (rw pow-suc at h) in
+        rw (← dec-more j n (omega arith), length-append) (omega (arith, before i less))
+
+pub five-digits : FiveDigits
+unfolding decBytes
+five-digits n h = few-digits 20 4 n (omega arith)
 
 pub dec-digits : (k n : ℕ) → length (decDigits k n) ≤ k
 unfolding decDigits
@@ -28,7 +49,11 @@ pub dec-field : (n : ℕ) → length (decField n) ≤ 21
 unfolding decField decBytes
 dec-field n = omega (arith, dec-digits 20 n)
 
-pub hex-field : (n : ℕ) → length (hexField n) ≡ 9
+pub short-field : (n : ℕ) → n < 65536 → length (decField n) ≤ numberBytes
+unfolding decField
+short-field n h = omega (arith, five-digits n h)
+
+pub hex-field : (n : ℕ) → length (hexField n) ≡ floatBytes
 unfolding hexField hexBytes
 hex-field n = omega (arith, hex-digits 8 n)
 

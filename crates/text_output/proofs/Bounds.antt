@@ -1,5 +1,6 @@
 -- How long an output can be, and how much of an input decides it. Assumes nothing.
-use Prim.Native.Nat.{ℕ, _*_, _/_, _≤_, min}
+use Prim.Native.Nat.{ℕ, _*_, _/_, _≤_, _<_, min}
+use native.Mathlib.Decide.{decLt}
 use native.Mathlib.Omega.{arith}
 use borrow.Author.Tests.{eqb-true}
 use mathlib.Core.Bool.{Bool, true, false}
@@ -7,18 +8,23 @@ use mathlib.Core.List.{List, [], _∷_, _++_}
 use mathlib.Core.Path.{_≡_, refl, ap}
 use lib.Dec.{eqb}
 use lib.Ieee.{Float}
-use lib.ListN.{length, length-append, length-take, take}
+use lib.ListN.{getD, length, length-append, length-take, List·getD-eq-default, take}
+use lib.Seq.{getD-take}
 use Rattle.base_words.specs.Choice.{if_then_else_}
-use Rattle.call_rules.proofs.Demands.{demand1}
+use Rattle.base_places.specs.Places.{longestOutput}
+use Rattle.call_rules.specs.Call.{Ended}
+use Rattle.call_rules.specs.Few.{FewTold}
+use Rattle.call_rules.proofs.Demands.{demand1, few-told}
 use Rattle.text_line.specs.Night.{Night, ofProgram}
 use Rattle.text_read.specs.Text.{Text, reading, refused, textOf}
 use Rattle.text_prefix.specs.Prefix.{WholeRows}
 use Rattle.text_prefix.proofs.Prefix.{prefix-decides, tables-hold}
 use Rattle.text_write.specs.Lines.{eLine, rLine}
-use Rattle.text_rows.specs.Tables.{aLines, bLines, iLines}
-use Rattle.text_write.proofs.Lengths.{e-line-length, r-line-length, x-line-length}
-use Rattle.text_rows.proofs.Lengths.{a-lines-length, b-lines-length, i-lines-length}
-use Rattle.text_output.specs.Bounds.{OutputFits, PrefixDecidesOutput, most}
+use Rattle.text_rows.specs.Tables.{listing}
+use Rattle.text_rows.specs.declared.Listed.the-variants.{Answers, Bodies, Loads}
+use Rattle.text_write.proofs.Lengths.{Small, e-line-length, r-line-length, x-line-length}
+use Rattle.text_rows.proofs.Lengths.{answers-length, bodies-length, loads-length}
+use Rattle.text_output.specs.Bounds.{OutputFits, PrefixDecidesOutput}
 use Rattle.text_output.specs.Answer.{answer, called, lent, lines, prints, written}
 use Rattle.text_output.specs.Output.{output, outputOf}
 
@@ -29,6 +35,10 @@ few-done t h =
     let e : called t .done ≡ min (length (t .steps) / 2) (length (t .steps) / 2) = demand1 _ _ (called t) refl .goes-on h .0 in
     omega arith
 
+few-called : (t : Night) → FewTold (called t)
+unfolding called
+few-called t = few-told (lent t) _ (called t) refl
+
 prints-short : (xs : List Float) (kept : List ℕ) → length (prints xs kept) ≤ length kept
 unfolding prints
 prints-short [] kept = omega arith
@@ -36,19 +46,30 @@ prints-short (x ∷ xs) [] = omega arith
 prints-short (x ∷ xs) (k ∷ kept) = omega (arith, prints-short xs kept)
 
 module _ (done refusals : ℕ) (told bodies numbers floats : List ℕ) where
-  lines-fit : length told ≤ 512 → length bodies ≤ 192 → length floats ≤ 2880
-      → length (lines done refusals told bodies numbers floats) ≤ most
+  lines-fit : done ≤ 256 → refusals ≤ done → length told ≤ done * 2 → Small told → length bodies ≤ 192 → length floats ≤ 2880
+      → length (lines done refusals told bodies numbers floats) ≤ longestOutput
   unfolding lines
-  lines-fit p q r =
+  lines-fit few fewer p small q r =
       rw (
-        length-append (aLines told ++ bLines bodies ++ iLines numbers floats) (eLine done refusals),
-        length-append (aLines told ++ bLines bodies) (iLines numbers floats),
-        length-append (aLines told) (bLines bodies),
+        length-append (listing Answers told [] ++ listing Bodies [] bodies ++ listing Loads numbers floats) (eLine done refusals),
+        length-append (listing Answers told [] ++ listing Bodies [] bodies) (listing Loads numbers floats),
+        length-append (listing Answers told []) (listing Bodies [] bodies),
       )
-      (omega (arith, a-lines-length told, b-lines-length bodies, i-lines-length numbers floats, e-line-length done refusals))
+      (omega (
+        arith,
+        answers-length told [] small,
+        bodies-length [] bodies,
+        loads-length numbers floats (omega arith),
+        e-line-length done refusals (omega arith) (omega arith),
+      ))
 
-told-few : (room : List ℕ) (k : ℕ) → k ≤ 512 → length (take k room) ≤ 512
-told-few room k h = omega (arith, length-take k room)
+-- what is told of the answers are numbers of the text form
+told-small : (e : Ended) → FewTold e → Small (take (e .done * 2) (e .room))
+told-small e few j = side (decLt j (e .done * 2))
+  where
+    side : Dec (j < e .done * 2) → getD (take (e .done * 2) (e .room)) j 0 < 65536
+    side (yes h) = rw (getD-take (e .done * 2) (e .room) j 0 h) (omega (arith, few .answers j h))
+    side (no h) = rw (List·getD-eq-default (take (e .done * 2) (e .room)) 0 {n = j} (rw length-take (omega arith))) (omega arith)
 
 written-fits : (t : Night) → WholeRows t → (done : Bool) → eqb (called t .refusal) 0 ≡ done
     → length
@@ -56,19 +77,19 @@ written-fits : (t : Night) → WholeRows t → (done : Bool) → eqb (called t .
     then lines (called t .done) (called t .refused) (take (called t .done * 2) (called t .room))
     (prints (called t .tables .bodies) (t .bodies)) (t .numbers) (prints (called t .tables .floats) (t .floats))
     else rLine (called t .refusal))
-    ≤ most
+    ≤ longestOutput
 written-fits t h true e =
-    lines-fit _ _ _ _ (t .numbers) _
-    (told-few (called t .room) (called t .done * 2) (omega (arith, few-done t (eqb-true _ _ e), h .steps, h .few-steps)))
+    lines-fit _ _ _ _ (t .numbers) _ (omega (arith, few-done t (eqb-true _ _ e), h .steps, h .few-steps)) (few-called t .refused)
+    (omega (arith, length-take (called t .done * 2) (called t .room))) (told-small (called t) (few-called t))
     (omega (arith, prints-short (called t .tables .bodies) (t .bodies), h .bodies, h .few-bodies))
     (omega (arith, prints-short (called t .tables .floats) (t .floats), h .floats, h .few-contacts))
 written-fits t h false e = omega (arith, r-line-length (called t .refusal))
 
-answer-fits : (t : Night) → WholeRows t → length (answer t) ≤ most
+answer-fits : (t : Night) → WholeRows t → length (answer t) ≤ longestOutput
 unfolding answer written
 answer-fits t h = written-fits t h (eqb (called t .refusal) 0) refl
 
-fits-by : (input : List ℕ) (x : Text) → textOf ofProgram input ≡ x → length (outputOf x) ≤ most
+fits-by : (input : List ℕ) (x : Text) → textOf ofProgram input ≡ x → length (outputOf x) ≤ longestOutput
 unfolding outputOf
 fits-by input (reading line n t) e = answer-fits t (tables-hold input line n t e)
 fits-by input (refused number reason) e = omega (arith, x-line-length number reason)

@@ -3,16 +3,13 @@ use Prim.Native.Nat.{ℕ, _≤_}
 use mathlib.Core.List.{List}
 use mathlib.Core.Path.{_≡_}
 use lib.ListN.{length, take}
-use Rattle.text_prefix.specs.Prefix.{enough}
+use Rattle.base_places.specs.Places.{deciding, longestOutput}
 use Rattle.text_output.specs.Output.{output}
 
--- no output is longer than this: 256 A lines of at most 44 bytes, 64 B lines of 29, 128 I lines of at most 62, an E line of at most 44
-abbrev pub most : ℕ
-most = 21100
-
+-- no output is longer: 256 A lines of 14 bytes, 64 B of 29, 128 I of 32, an E of 14
 abbrev pub OutputFits : Type 0
-OutputFits = (input : List ℕ) → length (output input) ≤ most
+OutputFits = (input : List ℕ) → length (output input) ≤ longestOutput
 
--- the first 33,313 bytes of an input decide its output.
+-- the first 33,313 bytes of an input decide its output
 abbrev pub PrefixDecidesOutput : Type 0
-PrefixDecidesOutput = (input : List ℕ) → output (take enough input) ≡ output input
+PrefixDecidesOutput = (input : List ℕ) → output (take deciding input) ≡ output input

@@ -1,3 +1,2 @@
-pub mod Fronts
 pub mod Whole
-pub mod Front
+pub mod Decided

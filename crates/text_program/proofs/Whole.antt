@@ -1,12 +1,15 @@
 -- A text read into the program's tables, and its output. Assumes nothing.
-use Prim.Native.Nat.{ℕ, _≤_}
+use Prim.Native.Nat.{ℕ, _*_, _≤_}
 use native.Mathlib.Omega.{arith}
 use mathlib.Core.List.{List}
 use mathlib.Core.Path.{_≡_}
-use lib.ListN.{length, take}
+use lib.Ieee.{Float}
+use lib.ListN.{length, length-take, take}
+use Rattle.base_places.specs.Places.{bodyWidth, floatsWidth, longestOutput, numbersWidth, programBodies, programContacts, programSteps, stepWidth}
+use Rattle.base_rows.proofs.Fronts.{front-long}
 use Rattle.text_digits.specs.Wrote.{Wrote}
 use Rattle.text_digits.proofs.Lengths.{exact}
-use Rattle.text_line.specs.Filled.{Sane, nightOf, roomOf}
+use Rattle.text_line.specs.Filled.{nightOf, roomOf}
 use Rattle.text_line.specs.Night.{ofProgram}
 use Rattle.text_line.specs.declared.State.{State}
 use Rattle.text_read.specs.Text.{Text, textOf}
@@ -14,9 +17,8 @@ use Rattle.text_read.specs.AtByte.{ReadWhole, endText}
 use Rattle.text_read.specs.declared.End.{End}
 use Rattle.text_read.specs.declared.End.the-variants.{Whole, Bad}
 use Rattle.text_write.specs.Lines.{xLine}
-use Rattle.text_program.specs.Answered.{Answered}
+use Rattle.text_program.specs.Answered.{Answered, InTables}
 use Rattle.text_output.specs.Answer.{answer}
-use Rattle.text_output.specs.Bounds.{most}
 use Rattle.text_output.specs.Output.{output, outputOf}
 use Rattle.text_answer.specs.Calling.{night}
 use Rattle.text_output.proofs.Bounds.{output-fits}
@@ -29,18 +31,38 @@ pub cut-answer : (st : State) (bodies numbers floats steps : List ℕ) {o o′ :
     → Wrote o 0 (answer (nightOf st bodies numbers floats steps)) o′ q
 cut-answer st bodies numbers floats steps w = rw (of-state st bodies numbers floats steps) w
 
--- the program's tables hold 64 bodies, 64 contacts and 256 steps
-program-room : (bodies numbers floats steps : List ℕ) → length bodies ≡ 192 → length numbers ≡ 192 → length floats ≡ 2880
-    → length steps ≡ 512 → roomOf bodies numbers floats steps ≡ ofProgram
+-- tables cut to what was read
+module _ (st : State) (bodies numbers floats steps : List ℕ) (h : InTables st bodies numbers floats steps) where
+  pub bodies-cut : (values : List Float) → length values ≡ programBodies * bodyWidth → length (take (st .bodies) bodies) ≡ length (take (st .bodies) values)
+  bodies-cut values e = rw (length-take, length-take, h .as-bodies, e)
+
+  pub floats-cut : (values : List Float) → length values ≡ programContacts * floatsWidth
+      → length (take (st .floats) floats) ≡ length (take (st .floats) values)
+  floats-cut values e = rw (length-take, length-take, h .as-floats, e)
+
+  pub bodies-front : (values : List Float) → length values ≡ programBodies * bodyWidth → st .bodies ≡ length (take (st .bodies) values)
+  bodies-front values e = front-long (st .bodies) values (omega (arith, h .sane .bodies-fit, h .as-bodies, e))
+
+  pub floats-front : (values : List Float) → length values ≡ programContacts * floatsWidth → st .floats ≡ length (take (st .floats) values)
+  floats-front values e = front-long (st .floats) values (omega (arith, h .sane .floats-fit, h .as-floats, e))
+
+pub program-room : (bodies numbers floats steps : List ℕ) → length bodies ≡ programBodies * bodyWidth
+    → length numbers ≡ programContacts * numbersWidth → length floats ≡ programContacts * floatsWidth
+    → length steps ≡ programSteps * stepWidth → roomOf bodies numbers floats steps ≡ ofProgram
 unfolding roomOf ofProgram
 program-room bodies numbers floats steps p q r t = rw (p, q, r, t)
 
-module _ (input bodies numbers floats steps : List ℕ)
-    (p : length bodies ≡ 192) (q : length numbers ≡ 192) (u : length floats ≡ 2880) (w : length steps ≡ 512)
-    {r : End} {bodies′ numbers′ floats′ steps′ : List ℕ}
+pub in-tables : {x : Text} {r : End} {bodies numbers floats steps : List ℕ} → ReadWhole x r bodies numbers floats steps
+    → (st : State) (k : ℕ) → r ≡ Whole st k → length bodies ≡ programBodies * bodyWidth → length floats ≡ programContacts * floatsWidth
+    → InTables st bodies numbers floats steps
+in-tables v st k e p q = record { sane = rw e at (v .sane); as-bodies = p; as-floats = q }
+
+-- a text was read into tables as long as the program's
+module _ (input bodies numbers floats steps : List ℕ) {r : End} {bodies′ numbers′ floats′ steps′ : List ℕ}
+    (room : roomOf bodies numbers floats steps ≡ ofProgram)
     (v : ReadWhole (textOf (roomOf bodies numbers floats steps) input) r bodies′ numbers′ floats′ steps′) where
   came : textOf ofProgram input ≡ endText r bodies′ numbers′ floats′ steps′
-  came = rw (← program-room bodies numbers floats steps p q u w, v .is)
+  came = rw (← room, v .is)
 
   pub whole-text : (st : State) (k : ℕ) → r ≡ Whole st k → {o o′ : List ℕ} {at : ℕ}
       → Wrote o 0 (answer (nightOf st bodies′ numbers′ floats′ steps′)) o′ at
@@ -53,16 +75,12 @@ module _ (input bodies numbers floats steps : List ℕ)
   unfolding output outputOf endText
   bad-text number reason e z = rw (came, e) z
 
-pub sane-state : {x : Text} {r : End} {bodies numbers floats steps : List ℕ} → ReadWhole x r bodies numbers floats steps
-    → (st : State) (k : ℕ) → r ≡ Whole st k → Sane st bodies numbers floats steps
-sane-state v st k e = rw e at (v .sane)
-
 -- in a buffer that any output fits in, it stands whole
-pub answered : (input : List ℕ) {o o′ : List ℕ} {at : ℕ} → most ≤ length o → Wrote o 0 (output input) o′ at → Answered input o o′ at
+pub answered : (input : List ℕ) {o o′ : List ℕ} {at : ℕ} → longestOutput ≤ length o → Wrote o 0 (output input) o′ at → Answered input o o′ at
 answered input h w =
     let e = exact w (omega (arith, output-fits input)) in
     record { many = e .0; bytes = w .bytes; told = e .1 }
 
 -- and no more of the buffer is told than it has
-pub within : {input o o′ : List ℕ} {number : ℕ} → Answered input o o′ number → number ≤ most
+pub within : {input o o′ : List ℕ} {number : ℕ} → Answered input o o′ number → number ≤ longestOutput
 within {input} v = omega (arith, v .many, output-fits input)

@@ -1,60 +1,54 @@
 -- The places that I lines read are those of the contacts' impulses. Assumes nothing.
 use Prim.Native.Nat.{ℕ, zero, suc, _+_, _*_, _≤_, _<_}
 use native.Mathlib.Omega.{arith}
-use mathlib.Core.List.{List, [], _∷_}
-use mathlib.Core.Path.{_≡_, sym, _∙_, ap, ap₂}
+use mathlib.Core.List.{List, [], _∷_, map}
+use mathlib.Core.Path.{_≡_, refl, sym, _∙_, ap, ap₂}
 use lib.Dec.{lit<}
 use lib.Ieee.{Float, nan}
-use lib.ListN.{drop, getD, length}
-use lib.Seq.{getD-drop, getD-take}
+use lib.ListN.{getD, length}
+use Rattle.base_places.specs.Places.{floatsWidth, headWidth, place, pointPlace, pointWidth}
+use Rattle.base_places.specs.declared.Cell.{Cell}
+use Rattle.base_places.specs.declared.Cell.the-variants.{NormalImpulse, TangentImpulse}
 use Rattle.base_rows.specs.Rows.{part, row, rows}
 use Rattle.base_rows.proofs.Laws.{row-fits}
-use Rattle.base_rows.proofs.Parts.{length-part}
-use Rattle.step_contact.specs.declared.ContactPoint.{ContactPoint}
+use Rattle.base_rows.proofs.Parts.{length-part, part-at}
 use Rattle.list_tables.specs.Tables.{contactAt, contactOf, normalOf, pointOf, tangentOf}
 use Rattle.list_tables.proofs.Floats.{contact-there, its-points}
 use Rattle.text_digits.specs.Bits.{printed}
 use Rattle.text_prefix.proofs.Prefix.{tables-hold}
 use Rattle.text_output.specs.Answer.{called, prints}
 use Rattle.text_write.specs.Lines.{line}
-use Rattle.text_rows.specs.Tables.{iLine}
-use Rattle.text_unwritten.specs.Loads.{LoadsAreImpulses, LoadsLine, pointAt}
+use Rattle.text_rows.specs.Tables.{iLine, loads}
+use Rattle.text_unwritten.specs.Loads.{LoadsAreImpulses, LoadsLine, pointAt, valueIn}
 use Rattle.text_unwritten.proofs.AsLong.{called-as-long}
 use Rattle.text_unwritten.proofs.Prints.{prints-at, prints-part}
 
--- place i of a part
-part-at : {A : Type 0} (a n : ℕ) (l : List A) (i : ℕ) (d : A) → i < n → getD (part a n l) i d ≡ getD l (a + i) d
-unfolding part
-part-at a n l i d h = getD-take n (drop a l) i d h ∙ getD-drop a l i d
+-- a cell among its point's floats
+in-point : (c : Cell) (l : List Float) → valueIn c (pointOf l) ≡ getD l (place c) nan
+unfolding pointOf normalOf tangentOf
+in-point NormalImpulse l = part-at 0 10 l 5 nan (lit< tt)
+in-point TangentImpulse l = part-at 10 8 l 5 nan (lit< tt)
 
--- a point's impulses among its 18 floats
-point-normal : (l : List Float) → pointOf l .«normal_part» .impulse ≡ getD l 5 nan
-unfolding pointOf normalOf
-point-normal l = part-at 0 10 l 5 nan (lit< tt)
+inside : (c : Cell) → place c < pointWidth
+inside NormalImpulse = lit< tt
+inside TangentImpulse = lit< tt
 
-point-tangent : (l : List Float) → pointOf l .«tangent_part» .impulse ≡ getD l 15 nan
-unfolding pointOf tangentOf
-point-tangent l = part-at 10 8 l 5 nan (lit< tt)
-
--- a point's 18 floats among a contact's 45
-point-of : (numbers : List ℕ) (l : List Float) (p : ℕ) → p < 2 → pointAt p (contactOf numbers l) ≡ pointOf (part (9 + p * 18) 18 l)
+-- a point's floats among a contact's
+point-of : (numbers : List ℕ) (l : List Float) (p : ℕ) → p < 2 → pointAt p (contactOf numbers l) ≡ pointOf (part (pointPlace p) pointWidth l)
 point-of numbers l zero h = its-points numbers l .0
 point-of numbers l (suc zero) h = its-points numbers l .1
 point-of numbers l (suc (suc p)) h = absurd (omega arith)
 
+-- the same of each
+each-same : (f g : Cell → ℕ) → ((c : Cell) → f c ≡ g c) → (l : List Cell) → map f l ≡ map g l
+each-same f g h [] = refl
+each-same f g h (c ∷ l) = ap₂ (λ (n : ℕ) (m : List ℕ). n ∷ m) (h c) (each-same f g h l)
+
 module _ (numbers : List ℕ) (floats : List Float) (kept : List ℕ) (k p : ℕ) (as-long : length kept ≡ length floats)
-    (has-numbers : k < rows 3 numbers) (has-floats : k < rows 45 floats) (of-two : p < 2) where
-  -- point p of contact k, from its row of floats
-  its-point : pointAt p (contactAt numbers floats k) ≡ pointOf (part (9 + p * 18) 18 (row 45 k floats))
-  its-point = ap (pointAt p) (contact-there numbers floats k has-numbers has-floats) ∙ point-of (row 3 k numbers) (row 45 k floats) p of-two
-
-  -- place i of a point's 18 floats
-  of-point : (i : ℕ) → i < 18 → getD (part (9 + p * 18) 18 (row 45 k floats)) i nan ≡ getD (row 45 k floats) (9 + p * 18 + i) nan
-  of-point i h = part-at (9 + p * 18) 18 (row 45 k floats) i nan h
-
-  -- what is printed at place i of a contact's 45 floats, where x stands there
-  row-printed : (i : ℕ) → i < 45 → {x : Float} → x ≡ getD (row 45 k floats) i nan
-      → getD (row 45 k (prints floats kept)) i 0 ≡ printed x (getD (row 45 k kept) i 0)
+    (has-numbers : k < rows 3 numbers) (has-floats : k < rows floatsWidth floats) (of-two : p < 2) where
+  -- what is printed at place i of a contact's floats, where x stands there
+  row-printed : (i : ℕ) → i < floatsWidth → {x : Float} → x ≡ getD (row floatsWidth k floats) i nan
+      → getD (row floatsWidth k (prints floats kept)) i 0 ≡ printed x (getD (row floatsWidth k kept) i 0)
   row-printed i h e =
       let fits : k * 45 + 45 ≤ length floats = row-fits 45 k (λ l. l) floats has-floats in
       ap (λ (l : List ℕ). getD l i 0) (prints-part (k * 45) 45 floats kept)
@@ -62,31 +56,18 @@ module _ (numbers : List ℕ) (floats : List Float) (kept : List ℕ) (k p : ℕ
       (rw (length-part (k * 45) 45 kept (omega arith)) h)
       ∙ ap (λ (y : Float). printed y (getD (row 45 k kept) i 0)) (sym e)
 
-  normal-is : pointAt p (contactAt numbers floats k) .«normal_part» .impulse ≡ getD (row 45 k floats) (14 + p * 18) nan
-  normal-is =
-      ap (λ (q : ContactPoint). q .«normal_part» .impulse) its-point
-      ∙ point-normal (part (9 + p * 18) 18 (row 45 k floats))
-      ∙ of-point 5 (lit< tt)
-      ∙ ap (λ (i : ℕ). getD (row 45 k floats) i nan) (omega arith)
-
-  tangent-is : pointAt p (contactAt numbers floats k) .«tangent_part» .impulse ≡ getD (row 45 k floats) (24 + p * 18) nan
-  tangent-is =
-      ap (λ (q : ContactPoint). q .«tangent_part» .impulse) its-point
-      ∙ point-tangent (part (9 + p * 18) 18 (row 45 k floats))
-      ∙ of-point 15 (lit< tt)
-      ∙ ap (λ (i : ℕ). getD (row 45 k floats) i nan) (omega arith)
-
-  normal-printed : getD (row 45 k (prints floats kept)) (14 + p * 18) 0
-      ≡ printed (pointAt p (contactAt numbers floats k) .«normal_part» .impulse) (getD (row 45 k kept) (14 + p * 18) 0)
-  normal-printed = row-printed (14 + p * 18) (omega arith) normal-is
-
-  tangent-printed : getD (row 45 k (prints floats kept)) (24 + p * 18) 0
-      ≡ printed (pointAt p (contactAt numbers floats k) .«tangent_part» .impulse) (getD (row 45 k kept) (24 + p * 18) 0)
-  tangent-printed = row-printed (24 + p * 18) (omega arith) tangent-is
+  cell-is : (c : Cell) → valueIn c (pointAt p (contactAt numbers floats k)) ≡ getD (row floatsWidth k floats) (pointPlace p + place c) nan
+  cell-is c =
+      ap (λ q. valueIn c (pointAt p q)) (contact-there numbers floats k has-numbers has-floats)
+      ∙ ap (valueIn c) (point-of (row 3 k numbers) (row floatsWidth k floats) p of-two)
+      ∙ in-point c (part (pointPlace p) pointWidth (row floatsWidth k floats))
+      ∙ part-at (pointPlace p) pointWidth (row floatsWidth k floats) (place c) nan (inside c)
 
   loads-line : LoadsLine numbers floats kept k p
   unfolding iLine
-  loads-line = ap₂ (λ (x y : ℕ). line 73 (k ∷ p ∷ []) (x ∷ y ∷ [])) normal-printed tangent-printed
+  loads-line =
+      ap (line 73 (k ∷ p ∷ []))
+      (each-same _ _ (λ c. row-printed (pointPlace p + place c) (omega (arith, inside c)) (cell-is c)) loads)
 
 -- every contact of a text has its three numbers beside its floats, and the call leaves as many floats as were read
 pub loads-are-impulses : LoadsAreImpulses

@@ -1,10 +1,13 @@
 -- Document 01, "Text form": "A sheet's load is the impulse on its I line": what an I line reads are the contact's
 -- impulses. Proved in proofs/Loads.antt. Assumes nothing.
-use Prim.Native.Nat.{ℕ, zero, suc, _+_, _*_, _<_}
-use mathlib.Core.List.{List, [], _∷_}
+use Prim.Native.Nat.{ℕ, zero, suc, _+_, _<_}
+use mathlib.Core.List.{List, [], _∷_, map}
 use mathlib.Core.Path.{_≡_}
 use lib.Ieee.{Float}
 use lib.ListN.{getD}
+use Rattle.base_places.specs.Places.{floatsWidth, place, pointPlace}
+use Rattle.base_places.specs.declared.Cell.{Cell}
+use Rattle.base_places.specs.declared.Cell.the-variants.{NormalImpulse, TangentImpulse}
 use Rattle.base_rows.specs.Rows.{row, rows}
 use Rattle.step_contact.specs.declared.Contact.{Contact}
 use Rattle.step_contact.specs.declared.ContactPoint.{ContactPoint}
@@ -13,7 +16,7 @@ use Rattle.text_digits.specs.Bits.{printed}
 use Rattle.text_line.specs.Night.{Night, ofProgram}
 use Rattle.text_read.specs.Text.{reading, textOf}
 use Rattle.text_write.specs.Lines.{line}
-use Rattle.text_rows.specs.Tables.{iLine}
+use Rattle.text_rows.specs.Tables.{iLine, loads}
 use Rattle.text_output.specs.Answer.{called, prints}
 
 -- point 0 is a, point 1 is b
@@ -21,19 +24,21 @@ abbrev pub pointAt : ℕ → Contact → ContactPoint
 pointAt zero c = c .a
 pointAt (suc p) c = c .b
 
--- the I line of point p of contact k, from the floats that the call left and the bits kept beside them: its two numbers are what is printed
--- of the contact's impulses there
+-- what a point holds in a cell
+abbrev pub valueIn : Cell → ContactPoint → Float
+valueIn NormalImpulse q = q .«normal_part» .impulse
+valueIn TangentImpulse q = q .«tangent_part» .impulse
+
+-- the I line of point p of contact k, from the floats that the call left and the bits kept beside them: after its two numbers, what is
+-- printed of the contact's loads there
 abbrev pub LoadsLine : List ℕ → List Float → List ℕ → ℕ → ℕ → Type 0
 LoadsLine numbers floats kept k p =
     let point = pointAt p (contactAt numbers floats k) in
     iLine (prints floats kept) k p
-    ≡ line 73 (k ∷ p ∷ [])
-    (printed (point .«normal_part» .impulse) (getD (row 45 k kept) (14 + p * 18) 0)
-    ∷ printed (point .«tangent_part» .impulse) (getD (row 45 k kept) (24 + p * 18) 0)
-    ∷ [])
+    ≡ line 73 (k ∷ p ∷ []) (map (λ c. printed (valueIn c point) (getD (row floatsWidth k kept) (pointPlace p + place c) 0)) loads)
 
 -- of a text that was read to its end, t being what it says: so is the I line of every point of every contact
 abbrev pub LoadsAreImpulses : Type 0
 LoadsAreImpulses =
-    (s line : List ℕ) (n : ℕ) (t : Night) → textOf ofProgram s ≡ reading line n t → (k p : ℕ) → k < rows 45 (t .floats) → p < 2
+    (s line : List ℕ) (n : ℕ) (t : Night) → textOf ofProgram s ≡ reading line n t → (k p : ℕ) → k < rows floatsWidth (t .floats) → p < 2
     → LoadsLine (t .numbers) (called t .tables .floats) (t .floats) k p

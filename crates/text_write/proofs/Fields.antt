@@ -1,13 +1,20 @@
 -- Fields written one after the other: none yet, one more, all of them. For any kind of field. Assumes nothing.
 use Prim.Native.Nat.{ℕ, _+_, _≤_, _<_}
 use native.Mathlib.Numerals.{add-one}
+use native.Mathlib.Omega.{arith}
 use mathlib.Core.Path.{_≡_}
 use mathlib.Core.List.{List, [], _∷_, _++_, append-assoc, append-nil}
 use lib.ListN.{getD, length, take}
 use lib.Seq.{take-all, take-suc}
+use mir.Syntax.{w16, w64}
+use mir.Val.{Fits}
 use Rattle.text_digits.specs.Wrote.{Wrote}
 use Rattle.text_digits.proofs.Then.{nothing, then}
 use Rattle.text_write.specs.Lines.{joined}
+
+-- a number of two bytes fits a machine word
+pub word-fits : {n : ℕ} → Fits w16 n → Fits w64 n
+word-fits h = record { fits = omega (arith, h .fits) }
 
 module _ (field : ℕ → List ℕ) where
   joined-snoc : (x : List ℕ) (n : ℕ) → joined field (x ++ (n ∷ [])) ≡ joined field x ++ field n

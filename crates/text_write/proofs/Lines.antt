@@ -7,7 +7,7 @@ use mathlib.Core.List.{List, [], _∷_}
 use lib.ListN.{length}
 use Rattle.text_digits.specs.Digits.{decField, hexField}
 use Rattle.text_digits.specs.Wrote.{Wrote}
-use Rattle.text_digits.proofs.Then.{nothing, then}
+use Rattle.text_digits.proofs.Then.{nothing, room, then}
 use Rattle.text_write.specs.Lines.{each, joined, line}
 
 module _ {o : List ℕ} {at : ℕ} where
@@ -18,16 +18,17 @@ module _ {o : List ℕ} {at : ℕ} where
   unfolding line
   line-written letter numbers bits v w x y = then (then (then v w) x) y
 
+  -- two numbers, one after the other
+  pub two-written : {o1 o2 : List ℕ} {a r : ℕ} (n m : ℕ) → Wrote o at (decField n) o1 a → Wrote o1 a (decField m) o2 r
+      → Wrote o at (joined decField (n ∷ m ∷ [])) o2 r
+  unfolding joined
+  two-written n m v w = then v (then w (nothing _ _ (room w)))
+
   module _ (f : ℕ → List ℕ) where
     -- no line yet, at the place where writing starts
     pub from-start : {p : ℕ} → p ≡ min (length o) at → Wrote o at (each f 0) o p
     unfolding each
     from-start e = record { bytes = refl; place = omega (arith, e) }
-
-    -- no line yet, at a place in the buffer
-    pub from-here : at ≤ length o → Wrote o at (each f 0) o at
-    unfolding each
-    from-here h = nothing o at h
 
     pub line-more : {o1 o2 : List ℕ} {p q : ℕ} (i : ℕ) → Wrote o at (each f i) o1 p → Wrote o1 p (f i) o2 q
         → Wrote o at (each f (i + 1)) o2 q

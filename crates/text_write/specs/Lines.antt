@@ -19,13 +19,13 @@ each f zero = []
 each f (suc n) = each f n ++ f n
 
 -- E: steps done, and how many of them were refused
-unfoldable pub eLine : ℕ → ℕ → List ℕ
+abbrev pub eLine : ℕ → ℕ → List ℕ
 eLine done refused = line 69 (done ∷ refused ∷ []) []
 
 -- "A whole-call refusal writes only R and its number"
-unfoldable pub rLine : ℕ → List ℕ
+abbrev pub rLine : ℕ → List ℕ
 rLine refusal = line 82 (refusal ∷ []) []
 
 -- "Bad text writes only X, line number from 1, reason"
-unfoldable pub xLine : ℕ → ℕ → List ℕ
+abbrev pub xLine : ℕ → ℕ → List ℕ
 xLine number reason = line 88 (number ∷ reason ∷ []) []

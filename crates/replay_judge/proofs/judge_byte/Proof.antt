@@ -14,10 +14,10 @@ same-length : tie.Need-same-length
 same-length c = search needs
 
 returns : tie.Need-returns
-returns c = byte-ten _ _ ((c .before .before .before .before .before .before .if1 .taken)) ((c .before .before .end-line .ensures))
+returns c = byte-ten _ _ (search needs) ((c .before .before .end-line .ensures))
 
 returns-2 : tie.Need-returns-2
-returns-2 c = byte-other _ _ ((c .before .before .before .before .if1 .left)) ((c .before .before .before .before .before .before .pre)) ((c .go-on .ensures))
+returns-2 c = byte-other _ _ (search needs) (search needs) ((c .go-on .ensures))
 
 pub judge-byte-spec : {M : Type 1} → statement M
 judge-byte-spec =

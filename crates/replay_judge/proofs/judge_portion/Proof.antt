@@ -31,17 +31,13 @@ loop-less : tie.Need-loop-less Inv-loop μ-loop
 loop-less c = search needs
 
 loop-again : tie.Need-loop-again Inv-loop μ-loop
-loop-again c =
-    let byte = c .before .before in
-    let test = byte .before .before .before .before .before .before in
-    let inv = test .before .loop .inv in
-    (omega arith, search needs, one-fed _ _ _ _ _ _ (test .loop-test .taken) (inv .2) (byte .judge-byte .ensures) (inv .1))
+loop-again c = (omega arith, search needs, search one-fed)
 
 same-length : tie.Need-same-length Inv-loop μ-loop
 same-length c = search needs
 
 returns : tie.Need-returns Inv-loop μ-loop
-returns c = search all-fed
+returns c = (search all-fed, omega arith)
 
 pub judge-portion-spec : {M : Type 1} → statement M
 judge-portion-spec =

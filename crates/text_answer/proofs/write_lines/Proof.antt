@@ -4,14 +4,17 @@ use borrow.Author.Needs.{needs}
 use Rattle.text_answer.proofs.write_lines.Statement.{statement}
 use Rattle.text_answer.proofs.write_lines.Tie as tie
 
-a-lines-requires : tie.Need-a-lines-requires
-a-lines-requires c κs = search needs
+answers-of-requires : tie.Need-answers-of-requires
+answers-of-requires c κs = search needs
 
-b-lines-requires : tie.Need-b-lines-requires
-b-lines-requires c κs = search needs
+list-requires : tie.Need-list-requires
+list-requires c κs = search needs
 
-i-lines-requires : tie.Need-i-lines-requires
-i-lines-requires c κs = search needs
+list-requires-2 : tie.Need-list-requires-2
+list-requires-2 c κs = search needs
+
+list-requires-3 : tie.Need-list-requires-3
+list-requires-3 c κs = search needs
 
 e-line-requires : tie.Need-e-line-requires
 e-line-requires c κs = search needs
@@ -26,9 +29,10 @@ pub write-lines-spec : {M : Type 1} → statement M
 write-lines-spec =
     tie.close
     (tie.spec
-    a-lines-requires
-    b-lines-requires
-    i-lines-requires
+    answers-of-requires
+    list-requires
+    list-requires-2
+    list-requires-3
     e-line-requires
     same-length
     returns)

@@ -1,8 +1,8 @@
 -- `text_program::answer_state` meets its contract. The tables are cut to what was read. Assumes nothing.
-use native.Mathlib.Omega.{arith}
+use mathlib.Core.Path.{refl}
 use Rattle.base_rows.proofs.Fronts.{front-long}
-use Rattle.text_program.proofs.Fronts.{front-short, fronts-alike}
-use Rattle.text_program.proofs.Whole.{cut-answer}
+use Rattle.text_output.specs.Answer.{zeros}
+use Rattle.text_program.proofs.Whole.{bodies-cut, bodies-front, cut-answer, floats-cut, floats-front}
 use borrow.Author.Needs.{needs}
 use Rattle.text_program.proofs.answer_state.Statement.{statement}
 use Rattle.text_program.proofs.answer_state.Tie as tie
@@ -11,72 +11,47 @@ slice-relend-prefix-answer-night : tie.Need-slice-relend-prefix-answer-night
 slice-relend-prefix-answer-night c = search needs
 
 slice-aggregate-answer-night : tie.Need-slice-aggregate-answer-night
-slice-aggregate-answer-night c =
-    let start = c .before .before .before .before .before .before .before .before .before in
-    front-long _ _ (start .pre .0 .bodies-fit)
+slice-aggregate-answer-night c = search (front-long, needs)
 
 slice-aggregate-answer-night-2 : tie.Need-slice-aggregate-answer-night-2
-slice-aggregate-answer-night-2 c =
-    let start = c .before .before .before .before .before .before .before .before .before .before in
-    front-long _ _ (start .pre .0 .numbers-fit)
+slice-aggregate-answer-night-2 c = search (front-long, needs)
 
 slice-relend-prefix-answer-night-2 : tie.Need-slice-relend-prefix-answer-night-2
 slice-relend-prefix-answer-night-2 c = search needs
 
 slice-aggregate-answer-night-3 : tie.Need-slice-aggregate-answer-night-3
-slice-aggregate-answer-night-3 c =
-    let start = c .before .before .before .before .before .before .before .before .before .before .before in
-    front-long _ _ (start .pre .0 .floats-fit)
+slice-aggregate-answer-night-3 c = search (front-long, needs)
 
 slice-aggregate-answer-night-4 : tie.Need-slice-aggregate-answer-night-4
-slice-aggregate-answer-night-4 c =
-    let start = c .before .before .before .before .before .before .before .before .before .before .before .before in
-    front-long _ _ (start .pre .0 .steps-fit)
+slice-aggregate-answer-night-4 c = search (front-long, needs)
 
-slice-relend-prefix-answer-night-3 : tie.Need-slice-relend-prefix-answer-night-3
-slice-relend-prefix-answer-night-3 c = search needs
+array-borrow-prefix-body-values : tie.Need-array-borrow-prefix-body-values
+array-borrow-prefix-body-values c = search needs
 
 slice-aggregate-answer-night-5 : tie.Need-slice-aggregate-answer-night-5
-slice-aggregate-answer-night-5 c =
-    let start = c .before .before .before .before .before .before .before .before .before .before .before .before .before in
-    front-long _ _ (omega (arith, start .pre .0 .bodies-fit, start .pre .1))
+slice-aggregate-answer-night-5 c = search (bodies-front, needs)
 
-slice-relend-prefix-answer-night-4 : tie.Need-slice-relend-prefix-answer-night-4
-slice-relend-prefix-answer-night-4 c = search needs
+array-borrow-prefix-contact-values : tie.Need-array-borrow-prefix-contact-values
+array-borrow-prefix-contact-values c = search needs
 
 slice-aggregate-answer-night-6 : tie.Need-slice-aggregate-answer-night-6
-slice-aggregate-answer-night-6 c =
-    let start = c .before .before .before .before .before .before .before .before .before .before .before .before .before .before in
-    front-long _ _ (omega (arith, start .pre .0 .floats-fit, start .pre .2))
+slice-aggregate-answer-night-6 c = search (floats-front, needs)
+
+slice-aggregate-answer-night-7 : tie.Need-slice-aggregate-answer-night-7
+slice-aggregate-answer-night-7 c = search needs
 
 answer-night-requires : tie.Need-answer-night-requires
-answer-night-requires c κs =
-    let lent = c .before .before .before .before .before .before .before .before in
-    let start = lent .before .before .before .before .before .before .before .before in
-    let a = start .args in (
-      fronts-alike (a .st .bodies) (a .bodies .now) (a .body-values .now) (start .pre .1),
-      fronts-alike (a .st .floats) (a .floats .now) (a .contact-values .now) (start .pre .2),
-      front-short (a .st .steps) (a .steps .now) 512 (start .pre .3),
-      start .pre .4,
-    )
+unfolding zeros
+answer-night-requires c κs = (search (bodies-cut, needs), search (floats-cut, needs), refl)
 
 same-length : tie.Need-same-length
-same-length c = omega arith
+same-length c = search needs
 
 same-length-2 : tie.Need-same-length-2
-same-length-2 c = omega arith
+same-length-2 c = search needs
 
 same-length-3 : tie.Need-same-length-3
-same-length-3 c = omega arith
-
-same-length-4 : tie.Need-same-length-4
-same-length-4 c = omega arith
-
-same-length-5 : tie.Need-same-length-5
-same-length-5 c = c .before .before .before .room .given
-
-same-length-6 : tie.Need-same-length-6
-same-length-6 c = c .before .out .given
+same-length-3 c = search needs
 
 returns : tie.Need-returns
 returns c = search cut-answer
@@ -91,15 +66,13 @@ answer-state-spec =
     slice-relend-prefix-answer-night-2
     slice-aggregate-answer-night-3
     slice-aggregate-answer-night-4
-    slice-relend-prefix-answer-night-3
+    array-borrow-prefix-body-values
     slice-aggregate-answer-night-5
-    slice-relend-prefix-answer-night-4
+    array-borrow-prefix-contact-values
     slice-aggregate-answer-night-6
+    slice-aggregate-answer-night-7
     answer-night-requires
     same-length
     same-length-2
     same-length-3
-    same-length-4
-    same-length-5
-    same-length-6
     returns)

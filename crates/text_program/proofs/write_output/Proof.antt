@@ -1,22 +1,20 @@
 -- `text_program::write_output` meets its contract. A text read to its end, and a bad one. Assumes nothing.
-use Rattle.text_output.specs.Answer.{zeros}
-use Rattle.text_program.proofs.Whole.{bad-text, sane-state, whole-text}
-use mathlib.Core.Path.{refl}
+use Rattle.text_program.proofs.Whole.{bad-text, in-tables, program-room, whole-text}
 use borrow.Author.Needs.{needs}
 use Rattle.text_program.proofs.write_output.Statement.{statement}
 use Rattle.text_program.proofs.write_output.Tie as tie
 
 slice-aggregate-read-text : tie.Need-slice-aggregate-read-text
-slice-aggregate-read-text c = refl
+slice-aggregate-read-text c = search needs
 
 slice-aggregate-read-text-2 : tie.Need-slice-aggregate-read-text-2
-slice-aggregate-read-text-2 c = refl
+slice-aggregate-read-text-2 c = search needs
 
 slice-aggregate-read-text-3 : tie.Need-slice-aggregate-read-text-3
-slice-aggregate-read-text-3 c = refl
+slice-aggregate-read-text-3 c = search needs
 
 slice-aggregate-read-text-4 : tie.Need-slice-aggregate-read-text-4
-slice-aggregate-read-text-4 c = refl
+slice-aggregate-read-text-4 c = search needs
 
 read-text-requires : tie.Need-read-text-requires
 read-text-requires c κs = search needs
@@ -36,18 +34,8 @@ slice-aggregate-answer-state-3 c = search needs
 slice-aggregate-answer-state-4 : tie.Need-slice-aggregate-answer-state-4
 slice-aggregate-answer-state-4 c = search needs
 
-slice-aggregate-answer-state-5 : tie.Need-slice-aggregate-answer-state-5
-slice-aggregate-answer-state-5 c = search needs
-
-slice-aggregate-answer-state-6 : tie.Need-slice-aggregate-answer-state-6
-slice-aggregate-answer-state-6 c = search needs
-
-slice-aggregate-answer-state-7 : tie.Need-slice-aggregate-answer-state-7
-slice-aggregate-answer-state-7 c = search needs
-
 answer-state-requires : tie.Need-answer-state-requires
-unfolding zeros
-answer-state-requires c κs = (search sane-state, search needs, search needs, search needs, refl)
+answer-state-requires c κs = search (in-tables, needs)
 
 enum-known-end-2 : tie.Need-enum-known-end-2
 enum-known-end-2 c = search needs
@@ -59,24 +47,16 @@ x-line-requires : tie.Need-x-line-requires
 x-line-requires c κs = search needs
 
 same-length : tie.Need-same-length
-same-length c = c .before .out .given
+same-length c = search needs
 
 returns : tie.Need-returns
-returns c =
-    let wrote = c .before .before .before .before .before .before .before in
-    let read = wrote .before .before .before .before .before .before .before .before .before .before in
-    let start = read .before .before .before .before .before .before in
-    whole-text _ _ _ _ _ refl refl refl refl (start .read-text .ensures) _ _ (read .end .given .1) (wrote .answer-state .ensures)
+returns c = search (whole-text, program-room, needs)
 
 same-length-2 : tie.Need-same-length-2
-same-length-2 c = c .before .out2 .given
+same-length-2 c = search needs
 
 returns-2 : tie.Need-returns-2
-returns-2 c =
-    let wrote = c .before .before in
-    let read = wrote .before .before .before in
-    let start = read .before .before .before .before .before .before in
-    bad-text _ _ _ _ _ refl refl refl refl (start .read-text .ensures) _ _ (read .end2 .given .1) (wrote .x-line .ensures)
+returns-2 c = search (bad-text, program-room, needs)
 
 pub write-output-spec : {M : Type 1} → statement M
 write-output-spec =
@@ -92,9 +72,6 @@ write-output-spec =
     slice-aggregate-answer-state-2
     slice-aggregate-answer-state-3
     slice-aggregate-answer-state-4
-    slice-aggregate-answer-state-5
-    slice-aggregate-answer-state-6
-    slice-aggregate-answer-state-7
     answer-state-requires
     enum-known-end-2
     cast-x-line

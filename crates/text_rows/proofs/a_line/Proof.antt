@@ -1,5 +1,4 @@
 -- `text_rows::a_line` meets its contract. The row, as it is lent. Assumes nothing.
-use native.Mathlib.Omega.{arith}
 use Rattle.text_rows.proofs.Tables.{a-written}
 use borrow.Author.Needs.{needs}
 use Rattle.text_rows.proofs.a_line.Statement.{statement}
@@ -26,23 +25,14 @@ part-row-start c = search needs
 part-row-end : tie.Need-part-row-end
 part-row-end c = search needs
 
-shared-slice-read-t15 : tie.Need-shared-slice-read-t15
-shared-slice-read-t15 c = search needs
+array-share-prefix-none : tie.Need-array-share-prefix-none
+array-share-prefix-none c = search needs
 
-cast-t7 : tie.Need-cast-t7
-cast-t7 c = omega (arith, c .shared-slice-known2 .given 0, c .shared-slice-known2 .given 1)
+slice-aggregate-row-line : tie.Need-slice-aggregate-row-line
+slice-aggregate-row-line c = search needs
 
-shared-slice-read-t17 : tie.Need-shared-slice-read-t17
-shared-slice-read-t17 c = search needs
-
-cast-t12 : tie.Need-cast-t12
-cast-t12 c = omega (arith, c .shared-slice-known3 .given 0, c .shared-slice-known3 .given 1)
-
-slice-aggregate-numbers-line : tie.Need-slice-aggregate-numbers-line
-slice-aggregate-numbers-line c = search needs
-
-numbers-line-requires : tie.Need-numbers-line-requires
-numbers-line-requires c κs = search needs
+row-line-requires : tie.Need-row-line-requires
+row-line-requires c κs = search needs
 
 same-length : tie.Need-same-length
 same-length c = search needs
@@ -61,11 +51,8 @@ a-line-spec =
     sub-row
     part-row-start
     part-row-end
-    shared-slice-read-t15
-    cast-t7
-    shared-slice-read-t17
-    cast-t12
-    slice-aggregate-numbers-line
-    numbers-line-requires
+    array-share-prefix-none
+    slice-aggregate-row-line
+    row-line-requires
     same-length
     returns)

@@ -4,35 +4,35 @@ use borrow.Author.Needs.{needs}
 use Rattle.text_rows.proofs.b_line.Statement.{statement}
 use Rattle.text_rows.proofs.b_line.Tie as tie
 
+mul-row : tie.Need-mul-row
+mul-row c = search needs
+
+mul-row-2 : tie.Need-mul-row-2
+mul-row-2 c = search needs
+
+add-row : tie.Need-add-row
+add-row c = search needs
+
+mul-row-3 : tie.Need-mul-row-3
+mul-row-3 c = search needs
+
+sub-row : tie.Need-sub-row
+sub-row c = search needs
+
+part-row-start : tie.Need-part-row-start
+part-row-start c = search needs
+
+part-row-end : tie.Need-part-row-end
+part-row-end c = search needs
+
 array-share-prefix-none : tie.Need-array-share-prefix-none
 array-share-prefix-none c = search needs
 
-slice-aggregate-put-line : tie.Need-slice-aggregate-put-line
-slice-aggregate-put-line c = search needs
+slice-aggregate-row-line : tie.Need-slice-aggregate-row-line
+slice-aggregate-row-line c = search needs
 
-mul-put-line : tie.Need-mul-put-line
-mul-put-line c = search needs
-
-mul-put-line-2 : tie.Need-mul-put-line-2
-mul-put-line-2 c = search needs
-
-add-put-line : tie.Need-add-put-line
-add-put-line c = search needs
-
-mul-put-line-3 : tie.Need-mul-put-line-3
-mul-put-line-3 c = search needs
-
-sub-put-line : tie.Need-sub-put-line
-sub-put-line c = search needs
-
-part-put-line-start : tie.Need-part-put-line-start
-part-put-line-start c = search needs
-
-part-put-line-end : tie.Need-part-put-line-end
-part-put-line-end c = search needs
-
-put-line-requires : tie.Need-put-line-requires
-put-line-requires c κs = search needs
+row-line-requires : tie.Need-row-line-requires
+row-line-requires c κs = search needs
 
 same-length : tie.Need-same-length
 same-length c = search needs
@@ -44,15 +44,15 @@ pub b-line-spec : {M : Type 1} → statement M
 b-line-spec =
     tie.close
     (tie.spec
+    mul-row
+    mul-row-2
+    add-row
+    mul-row-3
+    sub-row
+    part-row-start
+    part-row-end
     array-share-prefix-none
-    slice-aggregate-put-line
-    mul-put-line
-    mul-put-line-2
-    add-put-line
-    mul-put-line-3
-    sub-put-line
-    part-put-line-start
-    part-put-line-end
-    put-line-requires
+    slice-aggregate-row-line
+    row-line-requires
     same-length
     returns)

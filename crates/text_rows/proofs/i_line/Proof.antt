@@ -25,38 +25,38 @@ part-row-start c = search needs
 part-row-end : tie.Need-part-row-end
 part-row-end c = search needs
 
-mul-t9 : tie.Need-mul-t9
-mul-t9 c = search needs
+mul-place : tie.Need-mul-place
+mul-place c = search needs
+
+add-place : tie.Need-add-place
+add-place c = search needs
 
 add-t14 : tie.Need-add-t14
 add-t14 c = search needs
 
-mul-t12 : tie.Need-mul-t12
-mul-t12 c = search needs
+mul-t9 : tie.Need-mul-t9
+mul-t9 c = search needs
 
 shared-slice-read-t17 : tie.Need-shared-slice-read-t17
 shared-slice-read-t17 c = search needs
 
-mul-t11 : tie.Need-mul-t11
-mul-t11 c = search needs
+add-t12 : tie.Need-add-t12
+add-t12 c = search needs
 
-add-t10 : tie.Need-add-t10
-add-t10 c = search needs
+add-t11 : tie.Need-add-t11
+add-t11 c = search needs
 
-mul-t18 : tie.Need-mul-t18
-mul-t18 c = search needs
+mul-t10 : tie.Need-mul-t10
+mul-t10 c = search needs
 
-shared-slice-read-t20 : tie.Need-shared-slice-read-t20
-shared-slice-read-t20 c = search needs
+shared-slice-read-t19 : tie.Need-shared-slice-read-t19
+shared-slice-read-t19 c = search needs
 
-slice-aggregate-put-line : tie.Need-slice-aggregate-put-line
-slice-aggregate-put-line c = search needs
+slice-aggregate-pair-line : tie.Need-slice-aggregate-pair-line
+slice-aggregate-pair-line c = search needs
 
-slice-aggregate-put-line-2 : tie.Need-slice-aggregate-put-line-2
-slice-aggregate-put-line-2 c = search needs
-
-put-line-requires : tie.Need-put-line-requires
-put-line-requires c κs = search needs
+pair-line-requires : tie.Need-pair-line-requires
+pair-line-requires c κs = search needs
 
 same-length : tie.Need-same-length
 same-length c = search needs
@@ -75,16 +75,16 @@ i-line-spec =
     sub-row
     part-row-start
     part-row-end
-    mul-t9
+    mul-place
+    add-place
     add-t14
-    mul-t12
+    mul-t9
     shared-slice-read-t17
-    mul-t11
-    add-t10
-    mul-t18
-    shared-slice-read-t20
-    slice-aggregate-put-line
-    slice-aggregate-put-line-2
-    put-line-requires
+    add-t12
+    add-t11
+    mul-t10
+    shared-slice-read-t19
+    slice-aggregate-pair-line
+    pair-line-requires
     same-length
     returns)

@@ -6,7 +6,7 @@ use Rattle.text_digits.specs.Digits.{decField}
 use Rattle.text_digits.specs.Wrote.{Wrote}
 use Rattle.text_digits.proofs.Then.{as-long}
 use Rattle.text_write.specs.Lines.{joined}
-use Rattle.text_write.proofs.Fields.{all-of-them, none-yet, one-more}
+use Rattle.text_write.proofs.Fields.{all-of-them, none-yet, one-more, word-fits}
 use Rattle.text_write.proofs.dec_fields.Statement.{statement}
 use Rattle.text_write.proofs.dec_fields.Tie as tie
 
@@ -24,6 +24,9 @@ mul-dec-field c = search needs
 
 shared-slice-read-dec-field : tie.Need-shared-slice-read-dec-field Inv-loop μ-loop
 shared-slice-read-dec-field c = search needs
+
+cast-dec-field : tie.Need-cast-dec-field Inv-loop μ-loop
+cast-dec-field c = search (word-fits, c .shared-slice-known2 .given)
 
 dec-field-requires : tie.Need-dec-field-requires Inv-loop μ-loop
 dec-field-requires c κs = search needs
@@ -52,6 +55,7 @@ dec-fields-spec =
     loop-holds
     mul-dec-field
     shared-slice-read-dec-field
+    cast-dec-field
     dec-field-requires
     add-i
     loop-less
