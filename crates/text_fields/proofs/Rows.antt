@@ -12,7 +12,7 @@ use Rattle.base_words.specs.Choice.{if_then_else_}
 use Rattle.text_fields.specs.Fields.{Nothing, Says, ended, fields, fieldsFrom, takes, thenBits, untilTab, values}
 use Rattle.text_fields.specs.Got.{Adds, ReadFields, ReadRow, gotFrom, rowSays}
 use Rattle.text_fields.specs.Letters.{afterLetter, asked, letterIn, letterOf, lineLetter, says}
-use Rattle.text_fields.specs.declared.Cells.{Cells}
+use Rattle.text_fields.specs.declared.Counts.{Counts}
 use Rattle.text_fields.specs.declared.Form.the-variants.{Decimal, Hex}
 use Rattle.text_fields.specs.declared.Got.{Got}
 use Rattle.text_fields.specs.declared.Letter.{Letter}
@@ -71,7 +71,7 @@ module _ (s : List ℕ) (end : ℕ) (at-end : end ≡ 0 + untilTab (drop 0 s)) w
       small = numbers .small;
     }
 
-  pub whole-row : (l : Letter) {cells : Cells} {one two : Got} → Adds l cells
+  pub whole-row : (l : Letter) {cells : Counts} {one two : Got} → Adds l cells
       → ReadFields Decimal s (end + 1) (cells .numbers + cells .steps) one
       → ReadFields Hex s (one .next) (cells .bodies + cells .floats) two
       → ReadRow l s (record { good = one .good && two .good && ltb (length s) (two .next); numbers = one .values; bits = two .values })

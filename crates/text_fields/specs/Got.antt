@@ -9,7 +9,7 @@ use Rattle.base_words.specs.Choice.{if_then_else_}
 use Rattle.base_places.specs.Places.{normalWidth}
 use Rattle.text_fields.specs.Fields.{None, Nothing, Says, Taken, These, Values, fieldsFrom, takes}
 use Rattle.text_fields.specs.Letters.{adds, asked, says}
-use Rattle.text_fields.specs.declared.Cells.{Cells}
+use Rattle.text_fields.specs.declared.Counts.{Counts}
 use Rattle.text_fields.specs.declared.Field.{Field}
 use Rattle.text_fields.specs.declared.Field.the-variants.{Holds, Bad}
 use Rattle.text_fields.specs.declared.Form.{Form}
@@ -29,7 +29,7 @@ Small m [] = Unit
 Small m (n ∷ l) = (n ≤ m) × Small m l
 
 -- what a letter adds, no more of either form than an N line has
-pub record Adds (l : Letter) (r : Cells) : Type 0 where
+pub record Adds (l : Letter) (r : Counts) : Type 0 where
   pub bodies : r .bodies ≡ adds l .bodies
   pub numbers : r .numbers ≡ adds l .numbers
   pub floats : r .floats ≡ adds l .floats

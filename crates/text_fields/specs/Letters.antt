@@ -6,7 +6,7 @@ use lib.ListN.{getD, length}
 use Rattle.base_words.specs.Choice.{if_then_else_}
 use Rattle.base_places.specs.Places.{bodyWidth, headWidth, normalWidth, numbersWidth, stepWidth, tangentWidth}
 use Rattle.text_fields.specs.Fields.{Values, fields, values}
-use Rattle.text_fields.specs.declared.Cells.{Cells}
+use Rattle.text_fields.specs.declared.Counts.{Counts}
 use Rattle.text_fields.specs.declared.Form.{Form}
 use Rattle.text_fields.specs.declared.Form.the-variants.{Decimal, Hex}
 use Rattle.text_fields.specs.declared.Letter.{Letter}
@@ -29,7 +29,7 @@ letterIn (f ∷ fs) = if eqb (length f) 1 then letterOf (getD f 0 0) else Other
 
 -- B (x y w); C (body1 body2 count dir.x dir.y im1.x im1.y im2.x im2.y friction k12 flag); N, T "in the field orders above";
 -- S (contact kind): how many numbers a line adds to each table
-abbrev pub adds : Letter → Cells
+abbrev pub adds : Letter → Counts
 adds Body = record { bodies = bodyWidth; numbers = 0; floats = 0; steps = 0 }
 adds Contact = record { bodies = 0; numbers = numbersWidth; floats = headWidth; steps = 0 }
 adds Normal = record { bodies = 0; numbers = 0; floats = normalWidth; steps = 0 }

@@ -30,7 +30,7 @@ pub enum Form {
 }
 
 // So many numbers of each table: bodies' floats, contacts' numbers and floats, steps' numbers.
-pub struct Cells {
+pub struct Counts {
     pub bodies: usize,
     pub numbers: usize,
     pub floats: usize,
@@ -99,10 +99,10 @@ pub fn line_letter(line: &[u8]) -> Letter
 }
 
 // How many numbers a line adds to each table.
-pub fn adds(l: Letter) -> Cells
+pub fn adds(l: Letter) -> Counts
     ensures { λ r. ⌜ Adds l r ⌝ }
 {
-    let mut cells = Cells {
+    let mut cells = Counts {
         bodies: 0,
         numbers: 0,
         floats: 0,

@@ -11,7 +11,7 @@ use lib.Seq.{length-take-le}
 use Rattle.base_words.proofs.Said.{none-l, none-r}
 use Rattle.text_fields.specs.Got.{Adds}
 use Rattle.text_fields.specs.Letters.{adds}
-use Rattle.text_fields.specs.declared.Cells.{Cells}
+use Rattle.text_fields.specs.declared.Counts.{Counts}
 use Rattle.text_fields.specs.declared.Letter.{Letter}
 use Rattle.text_fields.specs.declared.Letter.the-variants.{Body, Contact, Normal, Tangent, Step, Other}
 use Rattle.text_line.specs.Night.{Night}
@@ -42,7 +42,7 @@ four b n f s e =
     let two = none-l (b || n) f three in
     (none-l b n two, none-r b n two, none-r (b || n) f three, none-r (b || n || f) s e)
 
-pub roomy : (room : Cells) (l : Letter) (t : Night) → full room l t ≡ false
+pub roomy : (room : Counts) (l : Letter) (t : Night) → full room l t ≡ false
     → (lacks (room .bodies) (adds l .bodies) (t .bodies) ≡ false) × (lacks (room .numbers) (adds l .numbers) (t .numbers) ≡ false)
     × (lacks (room .floats) (asksFloats l) (t .floats) ≡ false) × (lacks (room .steps) (adds l .steps) (t .steps) ≡ false)
 unfolding full
@@ -85,7 +85,7 @@ module _ (l : Letter) (st : State) (bodies numbers floats steps : List ℕ) (san
         fits steps (st .steps) (adds l .steps) (sane .steps-fit) (r .3),
       )
 
-  pub tested : {cells : Cells} {b n f s : Bool} {whole : ℕ} → Adds l cells → whole ≡ asksFloats l
+  pub tested : {cells : Counts} {b n f s : Bool} {whole : ℕ} → Adds l cells → whole ≡ asksFloats l
       → b ≡ ltb (length bodies) (st .bodies + cells .bodies) → n ≡ ltb (length numbers) (st .numbers + cells .numbers)
       → f ≡ ltb (length floats) (st .floats + whole) → s ≡ ltb (length steps) (st .steps + cells .steps)
       → Full l st bodies numbers floats steps (b || n || f || s)

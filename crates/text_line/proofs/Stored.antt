@@ -9,7 +9,7 @@ use lib.ListN.{drop, getD, length, length-append, length-set, set, take}
 use lib.Seq.{drop-cons, length-take-le, sets, sets-eq, take-at, take-take}
 use Rattle.text_fields.specs.Got.{Adds, Small, most}
 use Rattle.text_fields.specs.Letters.{adds, asked}
-use Rattle.text_fields.specs.declared.Cells.{Cells}
+use Rattle.text_fields.specs.declared.Counts.{Counts}
 use Rattle.text_fields.specs.declared.Form.the-variants.{Decimal, Hex}
 use Rattle.text_fields.specs.declared.Letter.{Letter}
 use Rattle.text_fields.proofs.Small.{small-at}
@@ -61,7 +61,7 @@ sixteen row i h = omega (arith, small-at 65535 row i h)
 
 -- a line's numbers at the ends of all tables
 pub put-all : (l : Letter) (place : Place) (st : State) (said bits bodies numbers floats steps : List ℕ)
-    {b n f s : ℕ} {bodies′ numbers′ floats′ steps′ : List ℕ} {cells : Cells} → Adds l cells
+    {b n f s : ℕ} {bodies′ numbers′ floats′ steps′ : List ℕ} {cells : Counts} → Adds l cells
     → Appended bodies (st .bodies) bits (cells .bodies) bodies′ b → Appended numbers (st .numbers) said (cells .numbers) numbers′ n
     → Appended floats (st .floats) bits (cells .floats) floats′ f → Appended steps (st .steps) said (cells .steps) steps′ s
     → Put l place st said bits bodies numbers floats steps

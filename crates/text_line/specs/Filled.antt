@@ -6,7 +6,7 @@ use mathlib.Core.List.{List, _++_}
 use mathlib.Core.Path.{_≡_}
 use lib.ListN.{length, take}
 use Rattle.text_fields.specs.Letters.{adds, asked, says}
-use Rattle.text_fields.specs.declared.Cells.{Cells}
+use Rattle.text_fields.specs.declared.Counts.{Counts}
 use Rattle.text_fields.specs.declared.Form.the-variants.{Decimal, Hex}
 use Rattle.text_fields.specs.declared.Letter.{Letter}
 use Rattle.text_line.specs.Night.{Night}
@@ -26,7 +26,7 @@ nightOf st bodies numbers floats steps = record {
 }
 
 -- the tables hold as many numbers as they are long
-unfoldable pub roomOf : List ℕ → List ℕ → List ℕ → List ℕ → Cells
+unfoldable pub roomOf : List ℕ → List ℕ → List ℕ → List ℕ → Counts
 roomOf bodies numbers floats steps = record {
   bodies = length bodies;
   numbers = length numbers;
@@ -76,7 +76,7 @@ pub record Put (l : Letter) (place : Place) (st : State) (said bits bodies numbe
   pub kept : roomOf bodies′ numbers′ floats′ steps′ ≡ roomOf bodies numbers floats steps
 
 -- a line came to what a definition says of it
-pub record Came (room : Cells) (x : LineCame) (r : LineRead) (bodies′ numbers′ floats′ steps′ : List ℕ) : Type 0 where
+pub record Came (room : Counts) (x : LineCame) (r : LineRead) (bodies′ numbers′ floats′ steps′ : List ℕ) : Type 0 where
   pub is : cameOf r bodies′ numbers′ floats′ steps′ ≡ x
   pub sane : SaneLine r bodies′ numbers′ floats′ steps′
   pub kept : roomOf bodies′ numbers′ floats′ steps′ ≡ room

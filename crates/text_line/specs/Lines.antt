@@ -10,7 +10,7 @@ use Rattle.base_words.specs.Choice.{if_then_else_}
 use Rattle.base_places.specs.Places.{floatsWidth}
 use Rattle.text_fields.specs.Fields.{Nothing, Says, Values}
 use Rattle.text_fields.specs.Letters.{adds, lineLetter, says}
-use Rattle.text_fields.specs.declared.Cells.{Cells}
+use Rattle.text_fields.specs.declared.Counts.{Counts}
 use Rattle.text_fields.specs.declared.Letter.{Letter}
 use Rattle.text_fields.specs.declared.Letter.the-variants.{Body, Contact, Normal, Tangent, Step, Other}
 use Rattle.text_line.specs.Night.{Night}
@@ -62,7 +62,7 @@ lacks room more l = ltb room (length l + more)
 abbrev pub asksFloats : Letter → ℕ
 asksFloats l = if is l Contact then floatsWidth else adds l .floats
 
-unfoldable pub full : Cells → Letter → Night → Bool
+unfoldable pub full : Counts → Letter → Night → Bool
 full room l t =
     lacks (room .bodies) (adds l .bodies) (t .bodies) || lacks (room .numbers) (adds l .numbers) (t .numbers)
     || lacks (room .floats) (asksFloats l) (t .floats)
@@ -84,18 +84,18 @@ pub data LineCame : Type 0 where
   bad : ℕ → LineCame
 
 -- 4, then 5
-unfoldable pub filled : Cells → Letter → Place → Night → Values → LineCame
+unfoldable pub filled : Counts → Letter → Place → Night → Values → LineCame
 filled room l place t Nothing = bad 4
 filled room l place t (Says numbers bits) = if full room l t then bad 5 else good (put l place numbers bits t)
 
 -- 3
-unfoldable pub ordered : Cells → Letter → Next → Night → Values → LineCame
+unfoldable pub ordered : Counts → Letter → Next → Night → Values → LineCame
 ordered room l OutOfOrder t v = bad 3
 ordered room l (To place) t v = filled room l place t v
 
 -- 2
-unfoldable pub readLetter : Cells → Night → Letter → Values → LineCame
+unfoldable pub readLetter : Counts → Night → Letter → Values → LineCame
 readLetter room t l v = if is l Other then bad 2 else ordered room l (nextPlace l (t .place)) t v
 
-unfoldable pub readLine : Cells → Night → List ℕ → LineCame
+unfoldable pub readLine : Counts → Night → List ℕ → LineCame
 readLine room t line = readLetter room t (lineLetter line) (says (lineLetter line) line)

@@ -2,7 +2,7 @@
 use Prim.Native.Nat.{ℕ, _*_}
 use mathlib.Core.List.{List, []}
 use Rattle.base_places.specs.Places.{bodyWidth, floatsWidth, numbersWidth, programBodies, programContacts, programSteps, stepWidth}
-use Rattle.text_fields.specs.declared.Cells.{Cells}
+use Rattle.text_fields.specs.declared.Counts.{Counts}
 use Rattle.text_line.specs.declared.Place.{Place}
 use Rattle.text_line.specs.declared.Place.the-variants.{Bodies}
 
@@ -19,7 +19,7 @@ unfoldable pub blank : Night
 blank = record { place = Bodies; bodies = []; numbers = []; floats = []; steps = [] }
 
 -- "The text program holds 64, 64 and 256": how many numbers each table holds
-unfoldable pub ofProgram : Cells
+unfoldable pub ofProgram : Counts
 ofProgram = record {
   bodies = programBodies * bodyWidth;
   numbers = programContacts * numbersWidth;

@@ -1,5 +1,5 @@
 -- How long an output can be, and how much of an input decides it. Assumes nothing.
-use Prim.Native.Nat.{ℕ, _*_, _/_, _≤_, _<_, min}
+use Prim.Native.Nat.{ℕ, _*_, _≤_, _<_, min}
 use native.Mathlib.Decide.{decLt}
 use native.Mathlib.Omega.{arith}
 use borrow.Author.Tests.{eqb-true}
@@ -11,7 +11,8 @@ use lib.Ieee.{Float}
 use lib.ListN.{getD, length, length-append, length-take, List·getD-eq-default, take}
 use lib.Seq.{getD-take}
 use Rattle.base_words.specs.Choice.{if_then_else_}
-use Rattle.base_places.specs.Places.{longestOutput}
+use Rattle.base_places.specs.Places.{answerWidth, bodyWidth, floatsWidth, longestOutput, programBodies, programContacts, programSteps, stepWidth}
+use Rattle.base_rows.specs.Rows.{rows}
 use Rattle.call_rules.specs.Call.{Ended}
 use Rattle.call_rules.specs.Few.{FewTold}
 use Rattle.call_rules.proofs.Demands.{demand1, few-told}
@@ -28,11 +29,11 @@ use Rattle.text_output.specs.Bounds.{OutputFits, PrefixDecidesOutput}
 use Rattle.text_output.specs.Answer.{answer, called, lent, lines, prints, written}
 use Rattle.text_output.specs.Output.{output, outputOf}
 
--- twice the steps done is no more than the list is long
-pub few-done : (t : Night) → called t .refusal ≡ 0 → called t .done * 2 ≤ length (t .steps)
+-- the steps done are no more than the list has
+pub few-done : (t : Night) → called t .refusal ≡ 0 → called t .done * stepWidth ≤ length (t .steps)
 unfolding called lent
 few-done t h =
-    let e : called t .done ≡ min (length (t .steps) / 2) (length (t .steps) / 2) = demand1 _ _ (called t) refl .goes-on h .0 in
+    let e : called t .done ≡ min (rows stepWidth (t .steps)) (rows stepWidth (t .steps)) = demand1 _ _ (called t) refl .goes-on h .0 in
     omega arith
 
 few-called : (t : Night) → FewTold (called t)
@@ -46,7 +47,8 @@ prints-short (x ∷ xs) [] = omega arith
 prints-short (x ∷ xs) (k ∷ kept) = omega (arith, prints-short xs kept)
 
 module _ (done refusals : ℕ) (told bodies numbers floats : List ℕ) where
-  lines-fit : done ≤ 256 → refusals ≤ done → length told ≤ done * 2 → Small told → length bodies ≤ 192 → length floats ≤ 2880
+  lines-fit : done ≤ programSteps → refusals ≤ done → length told ≤ done * answerWidth → Small told → length bodies ≤ programBodies * bodyWidth
+      → length floats ≤ programContacts * floatsWidth
       → length (lines done refusals told bodies numbers floats) ≤ longestOutput
   unfolding lines
   lines-fit few fewer p small q r =
@@ -64,23 +66,23 @@ module _ (done refusals : ℕ) (told bodies numbers floats : List ℕ) where
       ))
 
 -- what is told of the answers are numbers of the text form
-told-small : (e : Ended) → FewTold e → Small (take (e .done * 2) (e .room))
-told-small e few j = side (decLt j (e .done * 2))
+told-small : (e : Ended) → FewTold e → Small (take (e .done * answerWidth) (e .room))
+told-small e few j = side (decLt j (e .done * answerWidth))
   where
-    side : Dec (j < e .done * 2) → getD (take (e .done * 2) (e .room)) j 0 < 65536
-    side (yes h) = rw (getD-take (e .done * 2) (e .room) j 0 h) (omega (arith, few .answers j h))
-    side (no h) = rw (List·getD-eq-default (take (e .done * 2) (e .room)) 0 {n = j} (rw length-take (omega arith))) (omega arith)
+    side : Dec (j < e .done * answerWidth) → getD (take (e .done * answerWidth) (e .room)) j 0 < 65536
+    side (yes h) = rw (getD-take (e .done * answerWidth) (e .room) j 0 h) (omega (arith, few .answers j h))
+    side (no h) = rw (List·getD-eq-default (take (e .done * answerWidth) (e .room)) 0 {n = j} (rw length-take (omega arith))) (omega arith)
 
 written-fits : (t : Night) → WholeRows t → (done : Bool) → eqb (called t .refusal) 0 ≡ done
     → length
     (if done
-    then lines (called t .done) (called t .refused) (take (called t .done * 2) (called t .room))
+    then lines (called t .done) (called t .refused) (take (called t .done * answerWidth) (called t .room))
     (prints (called t .tables .bodies) (t .bodies)) (t .numbers) (prints (called t .tables .floats) (t .floats))
     else rLine (called t .refusal))
     ≤ longestOutput
 written-fits t h true e =
     lines-fit _ _ _ _ (t .numbers) _ (omega (arith, few-done t (eqb-true _ _ e), h .steps, h .few-steps)) (few-called t .refused)
-    (omega (arith, length-take (called t .done * 2) (called t .room))) (told-small (called t) (few-called t))
+    (omega (arith, length-take (called t .done * answerWidth) (called t .room))) (told-small (called t) (few-called t))
     (omega (arith, prints-short (called t .tables .bodies) (t .bodies), h .bodies, h .few-bodies))
     (omega (arith, prints-short (called t .tables .floats) (t .floats), h .floats, h .few-contacts))
 written-fits t h false e = omega (arith, r-line-length (called t .refusal))

@@ -10,7 +10,7 @@ use lib.ListN.{length, length-append}
 use Rattle.base_places.specs.Places.{mostInLine}
 use Rattle.text_line.specs.Night.{Night, blank, ofProgram}
 use Rattle.text_line.specs.Lines.{LineCame, bad, good, readLine}
-use Rattle.text_fields.specs.declared.Cells.{Cells}
+use Rattle.text_fields.specs.declared.Counts.{Counts}
 use Rattle.text_read.specs.Text.{Text, feed, feeds, lineEnded, reading, refused}
 use Rattle.text_prefix.proofs.Spent.{Spent, line-spent, nothing-spent}
 
@@ -66,6 +66,6 @@ fed-all s =
     rw e at (all-fed s 0 (reading [] 1 blank) (record { before = 0; spent = nothing-spent; all = refl; short = omega arith }))
 
 -- no byte more
-pub feeds-none : (room : Cells) (x : Text) → feeds room x [] ≡ x
+pub feeds-none : (room : Counts) (x : Text) → feeds room x [] ≡ x
 unfolding feeds
 feeds-none room x = refl

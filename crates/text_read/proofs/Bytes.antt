@@ -12,7 +12,7 @@ use Rattle.base_places.specs.Places.{mostInLine}
 use Rattle.text_line.specs.Night.{Night, blank}
 use Rattle.text_line.specs.Lines.{LineCame, readLine}
 use Rattle.text_line.specs.Filled.{Came, ReadLine, Sane, cameOf, nightOf, roomOf}
-use Rattle.text_fields.specs.declared.Cells.{Cells}
+use Rattle.text_fields.specs.declared.Counts.{Counts}
 use Rattle.text_line.specs.declared.Place.the-variants.{Bodies}
 use Rattle.text_line.specs.declared.State.{State}
 use Rattle.text_line.specs.declared.LineRead.{LineRead}
@@ -39,7 +39,7 @@ bytes-on a i x h p =
     let g : i - a < length (drop a x) = rw length-drop (omega arith) in
     rw (e, take-suc (drop a x) (i - a) 0 g, getD-drop, f)
 
-module _ (room : Cells) (line : List ℕ) (n : ℕ) (t : Night) {b : ℕ} where
+module _ (room : Counts) (line : List ℕ) (n : ℕ) (t : Night) {b : ℕ} where
   feed-line : b ≡ 10 → feed room (reading line n t) b ≡ lineEnded n (readLine room t line)
   unfolding feed
   feed-line e = sym (pick _ (eq-eqb _ _ e) refl)
@@ -53,7 +53,7 @@ module _ (room : Cells) (line : List ℕ) (n : ℕ) (t : Night) {b : ℕ} where
   feed-long e h = sym (pass _ (ne-eqb _ _ e) (pass _ (le-ltb _ _ h) refl))
 
 -- a line that was read, as the text after it
-module _ {room : Cells} {x : LineCame} {r : LineRead} {bodies numbers floats steps : List ℕ} (k : ℕ)
+module _ {room : Counts} {x : LineCame} {r : LineRead} {bodies numbers floats steps : List ℕ} (k : ℕ)
     (d : Came room x r bodies numbers floats steps) where
   pub good-line : (next : State) → r ≡ Good next → lineEnded k x ≡ reading [] (k + 1) (nightOf next bodies numbers floats steps)
   unfolding cameOf lineEnded
@@ -67,7 +67,7 @@ module _ {room : Cells} {x : LineCame} {r : LineRead} {bodies numbers floats ste
   bad-line reason e = rw (← d .is, e)
 
 -- the loop over the bytes: one more, none, and a text cut in two
-module _ (room : Cells) where
+module _ (room : Counts) where
   pub feeds-refused : (number reason : ℕ) (x : List ℕ) → feeds room (refused number reason) x ≡ refused number reason
   unfolding feeds feed
   feeds-refused number reason [] = refl

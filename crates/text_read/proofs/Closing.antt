@@ -12,7 +12,7 @@ use Rattle.base_words.proofs.Pick.{pass, take as pick}
 use Rattle.text_line.specs.Night.{Night, blank}
 use Rattle.text_line.specs.Lines.{inContact, readLine}
 use Rattle.text_line.specs.Filled.{ReadLine, Sane, nightOf, roomOf}
-use Rattle.text_fields.specs.declared.Cells.{Cells}
+use Rattle.text_fields.specs.declared.Counts.{Counts}
 use Rattle.text_line.specs.declared.State.{State}
 use Rattle.text_line.specs.declared.LineRead.{LineRead}
 use Rattle.text_line.specs.declared.LineRead.the-variants.{Good, Bad}
@@ -49,7 +49,7 @@ module _ (st : State) (number : ℕ) (bodies numbers floats steps : List ℕ) wh
   sane-whole h = sane-by (inContact (st .place)) h
 
 -- the end
-module _ (room : Cells) (line : List ℕ) (number : ℕ) (t : Night) where
+module _ (room : Counts) (line : List ℕ) (number : ℕ) (t : Night) where
   closed-empty : length line ≡ 0 → closed room (reading line number t) ≡ wholeContacts (reading [] number t)
   unfolding closed
   closed-empty h = ap wholeContacts (sym (pick _ (eq-eqb _ _ h) refl))
@@ -58,7 +58,7 @@ module _ (room : Cells) (line : List ℕ) (number : ℕ) (t : Night) where
   unfolding closed
   closed-line h = ap wholeContacts (sym (pass _ (ne-eqb _ _ h) refl))
 
-closed-refused : (room : Cells) (number reason : ℕ) → closed room (refused number reason) ≡ refused number reason
+closed-refused : (room : Counts) (number reason : ℕ) → closed room (refused number reason) ≡ refused number reason
 unfolding closed
 closed-refused room number reason = refl
 
@@ -136,6 +136,6 @@ pub at-end : {k : Cursor} {x : List ℕ} {i : ℕ} {bodies numbers floats steps 
     → i ≤ length x → length x ≤ i → Fine k x (length x) bodies numbers floats steps
 at-end {k} {x} {i} v l l′ = let e : length x ≡ i = omega arith in rw e v
 
-pub fine : {room : Cells} {x : List ℕ} {i : ℕ} {r : Fed} {bodies numbers floats steps : List ℕ}
+pub fine : {room : Counts} {x : List ℕ} {i : ℕ} {r : Fed} {bodies numbers floats steps : List ℕ}
     → Feeds room r x i bodies numbers floats steps → (k : Cursor) → r ≡ Next k → Fine k x i bodies numbers floats steps
 fine d k e = rw e at (d .is)

@@ -8,7 +8,7 @@ use Rattle.base_places.specs.Places.{mostInLine}
 use Rattle.text_line.specs.Night.{blank}
 use Rattle.text_line.specs.Lines.{inContact}
 use Rattle.text_line.specs.Filled.{Sane, nightOf, roomOf}
-use Rattle.text_fields.specs.declared.Cells.{Cells}
+use Rattle.text_fields.specs.declared.Counts.{Counts}
 use Rattle.text_line.specs.declared.State.{State}
 use Rattle.text_read.specs.Text.{Text, feeds, reading, refused}
 use Rattle.text_read.specs.declared.Cursor.{Cursor}
@@ -40,12 +40,12 @@ pub record Fine (k : Cursor) (x : List ℕ) (i : ℕ) (bodies numbers floats ste
   pub number : k .number ≤ i + 1
 
 -- the first i bytes of x were fed: the cursor stands after them, or one of them made the text a refused one
-abbrev pub AfterBytes : Cells → Fed → List ℕ → ℕ → List ℕ → List ℕ → List ℕ → List ℕ → Type 0
+abbrev pub AfterBytes : Counts → Fed → List ℕ → ℕ → List ℕ → List ℕ → List ℕ → List ℕ → Type 0
 AfterBytes room (Next k) x i bodies numbers floats steps = Fine k x i bodies numbers floats steps
 AfterBytes room (Refused number reason) x i bodies numbers floats steps =
     refused number reason ≡ feeds room (reading [] 1 blank) (take i x)
 
-pub record Feeds (room : Cells) (r : Fed) (x : List ℕ) (i : ℕ) (bodies numbers floats steps : List ℕ) : Type 0 where
+pub record Feeds (room : Counts) (r : Fed) (x : List ℕ) (i : ℕ) (bodies numbers floats steps : List ℕ) : Type 0 where
   pub is : AfterBytes room r x i bodies numbers floats steps
 
 abbrev pub SaneEnd : End → List ℕ → List ℕ → List ℕ → List ℕ → Type 0

@@ -8,7 +8,7 @@ use Rattle.base_words.specs.Choice.{if_then_else_}
 use Rattle.base_places.specs.Places.{mostInLine}
 use Rattle.text_line.specs.Night.{Night, blank}
 use Rattle.text_line.specs.Lines.{LineCame, bad, good, inContact, readLine}
-use Rattle.text_fields.specs.declared.Cells.{Cells}
+use Rattle.text_fields.specs.declared.Counts.{Counts}
 
 -- the line so far, its number from 1, and what the lines before it said; or the first bad line and its reason
 pub data Text : Type 0 where
@@ -21,14 +21,14 @@ lineEnded n (good t) = reading [] (n + 1) t
 lineEnded n (bad reason) = refused n reason
 
 -- one byte more: byte 10 ends the line; any other belongs to it, and is reason 1 past so many; "first bad line only"
-unfoldable pub feed : Cells → Text → ℕ → Text
+unfoldable pub feed : Counts → Text → ℕ → Text
 feed room (reading line n t) b =
     if eqb b 10 then lineEnded n (readLine room t line)
     else if ltb (length line) mostInLine then reading (line ++ (b ∷ [])) n t
     else refused n 1
 feed room (refused n reason) b = refused n reason
 
-unfoldable pub feeds : Cells → Text → List ℕ → Text
+unfoldable pub feeds : Counts → Text → List ℕ → Text
 feeds room x [] = x
 feeds room x (b ∷ s) = feeds room (feed room x b) s
 
@@ -38,10 +38,10 @@ wholeContacts (reading line n t) = if inContact (t .place) then refused n 3 else
 wholeContacts (refused n reason) = refused n reason
 
 -- the end of the text: what stands after the last byte 10, if anything, is a line too
-unfoldable pub closed : Cells → Text → Text
+unfoldable pub closed : Counts → Text → Text
 closed room (reading line n t) =
     wholeContacts (if eqb (length line) 0 then reading [] n t else lineEnded n (readLine room t line))
 closed room (refused n reason) = refused n reason
 
-unfoldable pub textOf : Cells → List ℕ → Text
+unfoldable pub textOf : Counts → List ℕ → Text
 textOf room s = closed room (feeds room (reading [] 1 blank) s)

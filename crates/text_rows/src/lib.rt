@@ -4,10 +4,10 @@ use base_places::ANSWER_WIDTH;
 use base_places::BODY_WIDTH;
 use base_places::FLOATS_WIDTH;
 use base_places::HEAD_WIDTH;
-use base_places::IMPULSE;
-use base_places::NORMAL_WIDTH;
+use base_places::NORMAL_IMPULSE;
 use base_places::NUMBERS_WIDTH;
 use base_places::POINT_WIDTH;
+use base_places::TANGENT_IMPULSE;
 ghost use mathlib.Core.Path.{_≡_};
 ghost use Prim.Native.Nat.{_*_, _≤_, _<_};
 ghost use lib.ListN.{length};
@@ -51,7 +51,7 @@ fn i_line(out: &mut [u8], at: usize, floats: &[u32], k: usize, point: usize) -> 
 {
     let row = &floats[k * FLOATS_WIDTH..k * FLOATS_WIDTH + FLOATS_WIDTH];
     let place = HEAD_WIDTH + point * POINT_WIDTH;
-    let loads = [row[place + IMPULSE], row[place + (NORMAL_WIDTH + IMPULSE)]];
+    let loads = [row[place + NORMAL_IMPULSE], row[place + TANGENT_IMPULSE]];
     text_write::pair_line(out, at, 73, k, point, &loads)
 }
 

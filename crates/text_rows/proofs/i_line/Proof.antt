@@ -43,11 +43,8 @@ shared-slice-read-t17 c = search needs
 add-t12 : tie.Need-add-t12
 add-t12 c = search needs
 
-add-t11 : tie.Need-add-t11
-add-t11 c = search needs
-
-mul-t10 : tie.Need-mul-t10
-mul-t10 c = search needs
+mul-t11 : tie.Need-mul-t11
+mul-t11 c = search needs
 
 shared-slice-read-t19 : tie.Need-shared-slice-read-t19
 shared-slice-read-t19 c = search needs
@@ -81,8 +78,7 @@ i-line-spec =
     mul-t9
     shared-slice-read-t17
     add-t12
-    add-t11
-    mul-t10
+    mul-t11
     shared-slice-read-t19
     slice-aggregate-pair-line
     pair-line-requires
