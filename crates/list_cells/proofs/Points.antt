@@ -3,10 +3,11 @@ use Prim.Native.Nat.{ℕ, _<_}
 use mathlib.Core.Bool.{Bool, _&&_}
 use mathlib.Core.List.{List}
 use mathlib.Core.Path.{_≡_, _∙_, ap}
-use lib.Dec.{lit<, ltb}
+use lib.Dec.{ltb}
 use lib.Ieee.{Float}
 use lib.ListN.{drop, length, take}
 use borrow.Rule.Slice.PartMut.{putMid}
+use Rattle.base_places.proofs.Fits.{cell-fits}
 use Rattle.base_places.specs.Places.{headWidth, place, pointPlace, pointWidth}
 use Rattle.base_places.specs.declared.Cell.{Cell}
 use Rattle.base_places.specs.declared.Cell.the-variants.{NormalImpulse, TangentImpulse}
@@ -18,11 +19,6 @@ use Rattle.step_kinds.specs.Table.{stores}
 use Rattle.base_rows.specs.Rows.{onPart}
 use Rattle.base_rows.proofs.Lent.{part-written}
 use Rattle.list_cells.specs.Cells.{putCells, putContact, putIf, putPoint}
-
--- every cell stands among its point's floats
-cell-fits : (c : Cell) → place c < pointWidth
-cell-fits NormalImpulse = lit< tt
-cell-fits TangentImpulse = lit< tt
 
 module _ (l : List Float) where
   pub cell-inside : (c : Cell) {i : ℕ} → i ≡ place c → length l ≡ pointWidth → i < length l

@@ -6,7 +6,7 @@ use mathlib.Core.Bool.{Bool, true, false}
 use mathlib.Core.List.{List, [], _∷_}
 use mathlib.Core.Path.{_≡_, refl, sym, _∙_, ap}
 use lib.Dec.{lit<, lit≤}
-use lib.Ieee.{Float}
+use lib.Ieee.{Float, nan}
 use lib.ListN.{getD, length, set}
 use Rattle.base_places.specs.Places.{bodyWidth, floatsWidth, headWidth, impulsePlace, normalWidth, numbersWidth, place, pointPlace, pointWidth, tangentWidth}
 use Rattle.base_places.specs.declared.Cell.{Cell}
@@ -20,14 +20,14 @@ use Rattle.elem_tangent.specs.declared.ContactConstraintTangentPart.{ContactCon
 use Rattle.elem_normal.specs.Normal.{normalWith}
 use Rattle.elem_normal.proofs.Keeps.{normal-with}
 use Rattle.elem_normal.specs.declared.ContactConstraintNormalPart.{ContactConstraintNormalPart}
-use Rattle.step_contact.specs.Cells.{withCell}
+use Rattle.step_contact.specs.Cells.{inCell, withCell}
 use Rattle.step_contact.specs.Contact.{contactZero, isFloor}
 use Rattle.step_contact.specs.declared.Contact.{Contact}
 use Rattle.step_contact.specs.declared.ContactPoint.{ContactPoint}
 use Rattle.base_rows.specs.Rows.{part, readRow, row, rows}
 use Rattle.base_rows.proofs.Places.{read-row, same-read, set-after, set-before, set-inside}
 use Rattle.base_rows.proofs.Lent.{read-past}
-use Rattle.base_rows.proofs.Parts.{length-part}
+use Rattle.base_rows.proofs.Parts.{length-part, part-at}
 use Rattle.list_tables.specs.Tables.{contactAt, contactOf, headOf, normalOf, pointOf, tangentOf, velAt, velOf}
 
 -- what holds of six floats and more holds of every stretch of more than five
@@ -69,6 +69,12 @@ cell-set TangentImpulse x l long =
     let fits : impulsePlace < length (part normalWidth tangentWidth l) = omega (arith, length-part normalWidth tangentWidth l (omega arith)) in
     same-parts (ap normalOf (set-after 0 normalWidth (normalWidth + impulsePlace) l x (lit≤ tt)))
     (ap tangentOf (set-inside normalWidth tangentWidth impulsePlace l x (lit< tt)) ∙ tangent-set x (part normalWidth tangentWidth l) fits)
+
+-- and what stands in a cell is the float at its place
+pub cell-read : (c : Cell) (l : List Float) → inCell c (pointOf l) ≡ getD l (place c) nan
+unfolding pointOf normalOf tangentOf
+cell-read NormalImpulse l = part-at 0 normalWidth l impulsePlace nan (lit< tt)
+cell-read TangentImpulse l = part-at normalWidth tangentWidth l impulsePlace nan (lit< tt)
 
 -- a contact whose head's floats are those of another has its head
 pub contact-with : (numbers : List ℕ) (l m : List Float) {a b : ContactPoint} → part 0 headWidth m ≡ part 0 headWidth l

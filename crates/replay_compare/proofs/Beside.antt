@@ -9,7 +9,7 @@ use mathlib.Core.Path.{_≡_, refl, sym, _∙_}
 use lib.Dec.{eqb, ltb}
 use lib.ListN.{drop, drop-of-length-le, getD, length, take}
 use lib.Seq.{drop-cons, length-take-le}
-use Rattle.base_places.specs.Places.{longestOutput}
+use Rattle.base_places.specs.Lengths.{longestOutput}
 use Rattle.base_words.proofs.Pick.{never}
 use Rattle.replay_days.specs.Judged.{linesFrom, verdict}
 use Rattle.replay_days.specs.Going.{ending, meets, restOf}

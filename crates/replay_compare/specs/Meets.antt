@@ -5,7 +5,7 @@ use mathlib.Core.Bool.{true, false}
 use mathlib.Core.List.{List, [], _++_}
 use mathlib.Core.Path.{_≡_}
 use lib.ListN.{drop, length, take}
-use Rattle.base_places.specs.Places.{longestOutput}
+use Rattle.base_places.specs.Lengths.{longestOutput}
 use Rattle.replay_days.specs.Judged.{linesFrom}
 use Rattle.replay_days.specs.Going.{meets}
 use Rattle.replay_compare.specs.declared.Spot.{Spot}

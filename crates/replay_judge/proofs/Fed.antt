@@ -7,8 +7,7 @@ use mathlib.Core.List.{List}
 use mathlib.Core.Path.{_≡_}
 use lib.ListN.{getD, length, length-take, take}
 use lib.Seq.{take-all, take-suc}
-use Rattle.base_places.specs.Places.{portion}
-use Rattle.base_places.specs.Places as Places
+use Rattle.base_places.specs.Lengths.{portionBytes, toldBytes}
 use Rattle.text_digits.proofs.Lengths.{exact}
 use Rattle.text_digits.proofs.Then.{nothing, then}
 use Rattle.replay_days.specs.Going.{Going, byteTells, fed, feeds, tells}
@@ -79,9 +78,9 @@ module _ (j : Judge) (input out told s : List ℕ) where
 
 -- with 64 bytes for each byte there is room for all that they tell
 pub whole-told : {j : Judge} {input out told s : List ℕ} {r : Turned} {input′ out′ told′ : List ℕ} (bytes : List ℕ) (n : ℕ)
-    → Portion j input out told s r input′ out′ told′ → s ≡ take n bytes → length bytes ≡ portion → length told ≡ Places.told
+    → Portion j input out told s r input′ out′ told′ → s ≡ take n bytes → length bytes ≡ portionBytes → length told ≡ toldBytes
     → Read j input out told (take n bytes) r input′ out′ told′
 whole-told {j} {input} {out} {told} bytes n p e long room =
-    let short : length (take n bytes) ≤ portion = omega (arith, length-take n bytes) in
+    let short : length (take n bytes) ≤ portionBytes = omega (arith, length-take n bytes) in
     let q : Portion j input out told (take n bytes) _ _ _ _ = rw e at p in
     record { turns = q; whole = λ g st few. exact (q .tells .wrote g st few) (omega (arith, tells-short g (take n bytes))) .1 }

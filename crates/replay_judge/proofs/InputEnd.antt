@@ -8,8 +8,7 @@ use lib.Dec.{eqb}
 use lib.ListN.{length, length-take, take}
 use Rattle.base_words.proofs.Pick.{never}
 use Rattle.text_digits.specs.Wrote.{Wrote}
-use Rattle.base_places.specs.Places.{deciding}
-use Rattle.base_places.specs.Places as Places
+use Rattle.base_places.specs.Lengths.{deciding, heldBytes}
 use Rattle.text_program.specs.Answered.{Answered}
 use Rattle.text_output.specs.Output.{output}
 use Rattle.text_output.proofs.Bounds.{output-fits, prefix-decides-output}
@@ -57,7 +56,7 @@ module _ (x out′ : List ℕ) (len : ℕ) where
       }
 
 module _ (line : LineSoFar) (n : ℕ) (input out : List ℕ) where
-  pub at-d : {t : Bool} {front out′ : List ℕ} {k len : ℕ} → t ≡ holdsOnly line 68 → t ≡ true → length input ≡ Places.held
+  pub at-d : {t : Bool} {front out′ : List ℕ} {k len : ℕ} → t ≡ holdsOnly line 68 → t ≡ true → length input ≡ heldBytes
       → k ≡ n - 1 → front ≡ take k input → Answered front out out′ len
       → EndsInput line n input out (Comparing (record { len = len; start = 0; at = 0; on = true; number = 1 })) input out′
   unfolding partAfter StandsPart

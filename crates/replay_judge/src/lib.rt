@@ -20,7 +20,7 @@ ghost use mathlib.Core.Path.{_≡_};
 ghost use Prim.Native.Nat.{_≤_, _<_, _-_};
 ghost use lib.ListN.{length, take};
 ghost use Rattle.text_digits.specs.Wrote.{Wrote};
-ghost use Rattle.base_places.specs.Places.{told as Places·told};
+ghost use Rattle.base_places.specs.Lengths.{toldBytes};
 ghost use Rattle.replay_days.specs.Judged.{judged};
 ghost use Rattle.replay_days.specs.Going.{byteTells, fed, finish};
 ghost use Rattle.replay_judge.specs.Carried.{differingAfter, isEmpty, nextDay, nextLine};
@@ -311,7 +311,7 @@ pub fn judge_read(
 ) -> Turned
     ensures { λ r. ⌜ Read j (now (input .entry)) (now (out .entry)) (now (told .entry)) (take n (now (portion .entry))) r
         (now (input .exit)) (now (out .exit)) (now (told .exit)) ⌝ }
-    ensures { λ r. ⌜ r .at ≤ Places·told ⌝ }
+    ensures { λ r. ⌜ r .at ≤ toldBytes ⌝ }
 {
     judge_portion(j, front(portion, n), input, out, told)
 }
@@ -372,7 +372,7 @@ pub fn judge_end(
     told: &mut [u8; TOLD],
 ) -> usize
     ensures { λ r. ⌜ Finishes j (now (input .entry)) (now (out .entry)) (now (told .entry)) (now (told .exit)) r ⌝ }
-    ensures { λ r. ⌜ r ≤ Places·told ⌝ }
+    ensures { λ r. ⌜ r ≤ toldBytes ⌝ }
 {
     end_file(j, input, out, told, 0)
 }

@@ -7,7 +7,8 @@ use mathlib.Core.Path.{_≡_, refl, sym, _∙_}
 use lib.Ieee.{Float}
 use lib.ListN.{length, take}
 use lib.Seq.{take-all}
-use Rattle.base_places.specs.Places.{answerWidth, programSteps, stepWidth}
+use Rattle.base_places.specs.Places.{answerWidth, stepWidth}
+use Rattle.base_places.specs.Lengths.{programSteps}
 use Rattle.base_rows.specs.Rows.{rows}
 use Rattle.base_rows.proofs.Fronts.{front-long}
 use Rattle.list_rules.specs.Sweep.{tables}

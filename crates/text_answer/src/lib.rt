@@ -11,7 +11,8 @@ ghost use Prim.Native.Nat.{_*_};
 ghost use lib.ListN.{length, take};
 ghost use Rattle.text_digits.specs.Wrote.{Wrote};
 ghost use Rattle.text_output.specs.Answer.{answer, floatsOf, lines, prints, written, zeros};
-ghost use Rattle.base_places.specs.Places.{answerWidth, programSteps};
+ghost use Rattle.base_places.specs.Places.{answerWidth};
+ghost use Rattle.base_places.specs.Lengths.{programSteps};
 ghost use Rattle.text_answer.specs.Calling.{Called, left, night};
 
 // The floats that patterns stand for.

@@ -7,7 +7,7 @@ use mathlib.Core.Path.{_≡_, refl}
 use mathlib.Core.List.{List}
 use lib.ListN.{drop, length, length-append, take}
 use lib.Seq.{sets-eq, take-at}
-use Rattle.base_places.specs.Places.{floatBytes, numberBytes}
+use Rattle.base_places.specs.Lengths.{floatBytes, numberBytes}
 use Rattle.text_digits.specs.FiveDigits.{FiveDigits}
 use Rattle.text_digits.specs.Digits.{decBytes, decDigits, decField, hexBytes, hexDigits, hexField}
 use Rattle.text_digits.specs.Wrote.{Wrote}

@@ -1,7 +1,8 @@
 -- Document 01, "Text form" and "Tables": what has been read of a text. Assumes nothing.
 use Prim.Native.Nat.{ℕ, _*_}
 use mathlib.Core.List.{List, []}
-use Rattle.base_places.specs.Places.{bodyWidth, floatsWidth, numbersWidth, programBodies, programContacts, programSteps, stepWidth}
+use Rattle.base_places.specs.Places.{bodyWidth, floatsWidth, numbersWidth, stepWidth}
+use Rattle.base_places.specs.Lengths.{programBodies, programContacts, programSteps}
 use Rattle.text_fields.specs.declared.Counts.{Counts}
 use Rattle.text_line.specs.declared.Place.{Place}
 use Rattle.text_line.specs.declared.Place.the-variants.{Bodies}

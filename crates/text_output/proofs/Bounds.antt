@@ -11,7 +11,8 @@ use lib.Ieee.{Float}
 use lib.ListN.{getD, length, length-append, length-take, List·getD-eq-default, take}
 use lib.Seq.{getD-take}
 use Rattle.base_words.specs.Choice.{if_then_else_}
-use Rattle.base_places.specs.Places.{answerWidth, bodyWidth, floatsWidth, longestOutput, programBodies, programContacts, programSteps, stepWidth}
+use Rattle.base_places.specs.Places.{answerWidth, bodyWidth, floatsWidth, stepWidth}
+use Rattle.base_places.specs.Lengths.{longestOutput, programBodies, programContacts, programSteps}
 use Rattle.base_rows.specs.Rows.{rows}
 use Rattle.call_rules.specs.Call.{Ended}
 use Rattle.call_rules.specs.Few.{FewTold}

@@ -5,7 +5,8 @@ use lib.Dec.{eqb}
 use lib.Ieee.{Float}
 use lib.ListN.{replicate, take}
 use Rattle.base_words.specs.Choice.{if_then_else_}
-use Rattle.base_places.specs.Places.{answerWidth, programSteps, stepWidth}
+use Rattle.base_places.specs.Places.{answerWidth, stepWidth}
+use Rattle.base_places.specs.Lengths.{programSteps}
 use Rattle.base_rows.specs.Rows.{rows}
 use Rattle.list_rules.specs.Sweep.{tables}
 use Rattle.call_rules.specs.Call.{Ended, Lent, lend, oneByOne}

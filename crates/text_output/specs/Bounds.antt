@@ -3,7 +3,7 @@ use Prim.Native.Nat.{ℕ, _≤_}
 use mathlib.Core.List.{List}
 use mathlib.Core.Path.{_≡_}
 use lib.ListN.{length, take}
-use Rattle.base_places.specs.Places.{deciding, longestOutput}
+use Rattle.base_places.specs.Lengths.{deciding, longestOutput}
 use Rattle.text_output.specs.Output.{output}
 
 -- no output is longer: 256 A lines of 14 bytes, 64 B of 29, 128 I of 32, an E of 14

@@ -7,7 +7,7 @@ use mathlib.Core.Path.{_≡_, refl}
 use borrow.Author.Tests.{ltb-true}
 use lib.Dec.{eqb, ltb}
 use lib.ListN.{length, length-append}
-use Rattle.base_places.specs.Places.{mostInLine}
+use Rattle.base_places.specs.Lengths.{mostInLine}
 use Rattle.text_line.specs.Night.{Night, blank, ofProgram}
 use Rattle.text_line.specs.Lines.{LineCame, bad, good, readLine}
 use Rattle.text_fields.specs.declared.Counts.{Counts}

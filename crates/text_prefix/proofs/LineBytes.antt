@@ -8,7 +8,7 @@ use borrow.Author.Tests.{eqb-true}
 use lib.Dec.{eqb}
 use lib.ListN.{getD, length, length-append}
 use Rattle.base_words.proofs.Pick.{never}
-use Rattle.base_places.specs.Places.{floatBytes, lineBytes, numberBytes}
+use Rattle.base_places.specs.Lengths.{floatBytes, lineBytes, numberBytes}
 use Rattle.text_digits.specs.declared.Number.{Number}
 use Rattle.text_digits.specs.declared.Number.the-variants.{Is, No}
 use Rattle.text_digits.proofs.Forms.{dec-short, hex-eight}

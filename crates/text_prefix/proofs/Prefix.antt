@@ -7,7 +7,7 @@ use mathlib.Core.Path.{_≡_, refl}
 use borrow.Author.Tests.{eqb-true}
 use lib.Dec.{eqb}
 use lib.ListN.{drop, drop-of-length-le, length, length-take, take, take-append-drop}
-use Rattle.base_places.specs.Places.{deciding, longestText, mostInLine}
+use Rattle.base_places.specs.Lengths.{deciding, longestText, mostInLine}
 use Rattle.text_line.specs.Night.{Night, blank, ofProgram}
 use Rattle.text_line.specs.Lines.{LineCame, bad, good, inContact, readLine}
 use Rattle.text_read.specs.Text.{Text, closed, feeds, lineEnded, reading, refused, textOf, wholeContacts}

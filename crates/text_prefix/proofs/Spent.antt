@@ -9,8 +9,8 @@ use borrow.Author.Tests.{eqb-true, ltb-false}
 use lib.Dec.{eqb}
 use lib.ListN.{length, length-append, take}
 use lib.Seq.{length-take-le}
-use Rattle.base_places.specs.Places.{bodyWidth, headWidth, lineBytes, normalWidth, numbersWidth, programBodies, programContacts}
-use Rattle.base_places.specs.Places.{programSteps, stepWidth, tangentWidth}
+use Rattle.base_places.specs.Places.{bodyWidth, headWidth, normalWidth, numbersWidth, stepWidth, tangentWidth}
+use Rattle.base_places.specs.Lengths.{lineBytes, programBodies, programContacts, programSteps}
 use Rattle.base_words.proofs.Pick.{never}
 use Rattle.base_words.proofs.Said.{all-l, all-r}
 use Rattle.text_fields.specs.Fields.{Nothing, Says, Values}

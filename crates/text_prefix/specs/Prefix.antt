@@ -3,8 +3,8 @@ use Prim.Native.Nat.{ℕ, _*_, _≤_}
 use mathlib.Core.List.{List}
 use mathlib.Core.Path.{_≡_}
 use lib.ListN.{length, take}
-use Rattle.base_places.specs.Places.{bodyWidth, deciding, floatsWidth, longestText, numbersWidth, programBodies, programContacts}
-use Rattle.base_places.specs.Places.{programSteps, stepWidth}
+use Rattle.base_places.specs.Places.{bodyWidth, floatsWidth, numbersWidth, stepWidth}
+use Rattle.base_places.specs.Lengths.{deciding, longestText, programBodies, programContacts, programSteps}
 use Rattle.text_line.specs.Night.{Night, ofProgram}
 use Rattle.text_read.specs.Text.{reading, textOf}
 
@@ -31,10 +31,3 @@ pub record WholeRows (t : Night) : Type 0 where
 
 abbrev pub TablesHold : Type 0
 TablesHold = (s line : List ℕ) (n : ℕ) (t : Night) → textOf ofProgram s ≡ reading line n t → WholeRows t
-
--- the two lengths, as the crates above name them
-abbrev pub longest : ℕ
-longest = longestText
-
-abbrev pub enough : ℕ
-enough = deciding

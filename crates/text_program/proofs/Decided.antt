@@ -6,7 +6,7 @@ use mathlib.Core.List.{List, [], _++_, append-nil}
 use mathlib.Core.Path.{_≡_, sym, _∙_}
 use lib.ListN.{length, take}
 use lib.Seq.{take-all, take-at}
-use Rattle.base_places.specs.Places.{deciding}
+use Rattle.base_places.specs.Lengths.{deciding}
 use Rattle.base_rows.proofs.Fronts.{front-long}
 use Rattle.text_program.specs.Answered.{Answered, AnsweredFront}
 use Rattle.text_output.specs.Output.{output}

@@ -5,7 +5,8 @@ use mathlib.Core.List.{List}
 use mathlib.Core.Path.{_≡_}
 use lib.Ieee.{Float}
 use lib.ListN.{length, length-take, take}
-use Rattle.base_places.specs.Places.{bodyWidth, floatsWidth, longestOutput, numbersWidth, programBodies, programContacts, programSteps, stepWidth}
+use Rattle.base_places.specs.Places.{bodyWidth, floatsWidth, numbersWidth, stepWidth}
+use Rattle.base_places.specs.Lengths.{longestOutput, programBodies, programContacts, programSteps}
 use Rattle.base_rows.proofs.Fronts.{front-long}
 use Rattle.text_digits.specs.Wrote.{Wrote}
 use Rattle.text_digits.proofs.Lengths.{exact}

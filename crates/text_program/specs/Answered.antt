@@ -4,7 +4,8 @@ use mathlib.Core.List.{List, [], _++_}
 use mathlib.Core.Path.{_≡_}
 use lib.ListN.{length, take}
 use lib.Seq.{sets}
-use Rattle.base_places.specs.Places.{bodyWidth, deciding, floatsWidth, longestOutput, programBodies, programContacts}
+use Rattle.base_places.specs.Places.{bodyWidth, floatsWidth}
+use Rattle.base_places.specs.Lengths.{deciding, longestOutput, programBodies, programContacts}
 use Rattle.text_line.specs.Filled.{Sane}
 use Rattle.text_line.specs.declared.State.{State}
 use Rattle.text_output.specs.Output.{output}

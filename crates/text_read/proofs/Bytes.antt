@@ -8,7 +8,7 @@ use mathlib.Core.Path.{_≡_, refl, sym}
 use lib.ListN.{drop, getD, length, length-drop, take}
 use lib.Seq.{getD-drop, length-take-le, take-suc}
 use Rattle.base_words.proofs.Pick.{pass, take as pick}
-use Rattle.base_places.specs.Places.{mostInLine}
+use Rattle.base_places.specs.Lengths.{mostInLine}
 use Rattle.text_line.specs.Night.{Night, blank}
 use Rattle.text_line.specs.Lines.{LineCame, readLine}
 use Rattle.text_line.specs.Filled.{Came, ReadLine, Sane, cameOf, nightOf, roomOf}

@@ -4,7 +4,7 @@ use mathlib.Core.List.{List, []}
 use mathlib.Core.Path.{_≡_}
 use lib.ListN.{drop, take}
 use Rattle.base_words.specs.Choice.{if_then_else_}
-use Rattle.base_places.specs.Places.{mostInLine}
+use Rattle.base_places.specs.Lengths.{mostInLine}
 use Rattle.text_line.specs.Night.{blank}
 use Rattle.text_line.specs.Lines.{inContact}
 use Rattle.text_line.specs.Filled.{Sane, nightOf, roomOf}

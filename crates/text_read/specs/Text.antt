@@ -5,7 +5,7 @@ use mathlib.Core.List.{List, [], _∷_, _++_}
 use lib.Dec.{eqb, ltb}
 use lib.ListN.{length}
 use Rattle.base_words.specs.Choice.{if_then_else_}
-use Rattle.base_places.specs.Places.{mostInLine}
+use Rattle.base_places.specs.Lengths.{mostInLine}
 use Rattle.text_line.specs.Night.{Night, blank}
 use Rattle.text_line.specs.Lines.{LineCame, bad, good, inContact, readLine}
 use Rattle.text_fields.specs.declared.Counts.{Counts}

@@ -7,7 +7,8 @@ use mathlib.Core.List.{List, []}
 use lib.Dec.{ltb}
 use lib.ListN.{drop, getD, length, length-drop, length-take, List·getD-eq-default}
 use Rattle.base_words.specs.Choice.{if_then_else_}
-use Rattle.base_places.specs.Places.{answerWidth, bodyWidth, floatsWidth, lineBytes}
+use Rattle.base_places.specs.Places.{answerWidth, bodyWidth, floatsWidth}
+use Rattle.base_places.specs.Lengths.{lineBytes}
 use Rattle.base_rows.specs.Rows.{part, row, rows}
 use Rattle.base_rows.proofs.Parts.{part-at}
 use Rattle.text_write.proofs.Lengths.{Small, each-length, short-line, two-small}

@@ -3,35 +3,25 @@ use Prim.Native.Nat.{ℕ, zero, suc, _+_, _*_, _≤_, _<_}
 use native.Mathlib.Omega.{arith}
 use mathlib.Core.List.{List, [], _∷_, map}
 use mathlib.Core.Path.{_≡_, refl, sym, _∙_, ap, ap₂}
-use lib.Dec.{lit<}
 use lib.Ieee.{Float, nan}
 use lib.ListN.{getD, length}
-use Rattle.base_places.specs.Places.{floatsWidth, headWidth, place, pointPlace, pointWidth}
+use Rattle.base_places.specs.Places.{floatsWidth, numbersWidth, place, pointPlace, pointWidth}
+use Rattle.base_places.proofs.Fits.{cell-fits}
 use Rattle.base_places.specs.declared.Cell.{Cell}
-use Rattle.base_places.specs.declared.Cell.the-variants.{NormalImpulse, TangentImpulse}
+use Rattle.step_contact.specs.Cells.{inCell}
 use Rattle.base_rows.specs.Rows.{part, row, rows}
 use Rattle.base_rows.proofs.Laws.{row-fits}
 use Rattle.base_rows.proofs.Parts.{length-part, part-at}
-use Rattle.list_tables.specs.Tables.{contactAt, contactOf, normalOf, pointOf, tangentOf}
-use Rattle.list_tables.proofs.Floats.{contact-there, its-points}
+use Rattle.list_tables.specs.Tables.{contactAt, contactOf, pointOf}
+use Rattle.list_tables.proofs.Floats.{cell-read, contact-there, its-points}
 use Rattle.text_digits.specs.Bits.{printed}
 use Rattle.text_prefix.proofs.Prefix.{tables-hold}
 use Rattle.text_output.specs.Answer.{called, prints}
 use Rattle.text_write.specs.Lines.{line}
 use Rattle.text_rows.specs.Tables.{iLine, loads}
-use Rattle.text_unwritten.specs.Loads.{LoadsAreImpulses, LoadsLine, pointAt, valueIn}
+use Rattle.text_unwritten.specs.Loads.{LoadsAreImpulses, LoadsLine, pointAt}
 use Rattle.text_unwritten.proofs.AsLong.{called-as-long}
 use Rattle.text_unwritten.proofs.Prints.{prints-at, prints-part}
-
--- a cell among its point's floats
-in-point : (c : Cell) (l : List Float) → valueIn c (pointOf l) ≡ getD l (place c) nan
-unfolding pointOf normalOf tangentOf
-in-point NormalImpulse l = part-at 0 10 l 5 nan (lit< tt)
-in-point TangentImpulse l = part-at 10 8 l 5 nan (lit< tt)
-
-inside : (c : Cell) → place c < pointWidth
-inside NormalImpulse = lit< tt
-inside TangentImpulse = lit< tt
 
 -- a point's floats among a contact's
 point-of : (numbers : List ℕ) (l : List Float) (p : ℕ) → p < 2 → pointAt p (contactOf numbers l) ≡ pointOf (part (pointPlace p) pointWidth l)
@@ -45,29 +35,29 @@ each-same f g h [] = refl
 each-same f g h (c ∷ l) = ap₂ (λ (n : ℕ) (m : List ℕ). n ∷ m) (h c) (each-same f g h l)
 
 module _ (numbers : List ℕ) (floats : List Float) (kept : List ℕ) (k p : ℕ) (as-long : length kept ≡ length floats)
-    (has-numbers : k < rows 3 numbers) (has-floats : k < rows floatsWidth floats) (of-two : p < 2) where
+    (has-numbers : k < rows numbersWidth numbers) (has-floats : k < rows floatsWidth floats) (of-two : p < 2) where
   -- what is printed at place i of a contact's floats, where x stands there
   row-printed : (i : ℕ) → i < floatsWidth → {x : Float} → x ≡ getD (row floatsWidth k floats) i nan
       → getD (row floatsWidth k (prints floats kept)) i 0 ≡ printed x (getD (row floatsWidth k kept) i 0)
   row-printed i h e =
-      let fits : k * 45 + 45 ≤ length floats = row-fits 45 k (λ l. l) floats has-floats in
-      ap (λ (l : List ℕ). getD l i 0) (prints-part (k * 45) 45 floats kept)
-      ∙ prints-at (row 45 k floats) (row 45 k kept) i (rw (length-part (k * 45) 45 floats fits) h)
-      (rw (length-part (k * 45) 45 kept (omega arith)) h)
-      ∙ ap (λ (y : Float). printed y (getD (row 45 k kept) i 0)) (sym e)
+      let fits : k * floatsWidth + floatsWidth ≤ length floats = row-fits floatsWidth k (λ l. l) floats has-floats in
+      ap (λ (l : List ℕ). getD l i 0) (prints-part (k * floatsWidth) floatsWidth floats kept)
+      ∙ prints-at (row floatsWidth k floats) (row floatsWidth k kept) i (rw (length-part (k * floatsWidth) floatsWidth floats fits) h)
+      (rw (length-part (k * floatsWidth) floatsWidth kept (omega arith)) h)
+      ∙ ap (λ (y : Float). printed y (getD (row floatsWidth k kept) i 0)) (sym e)
 
-  cell-is : (c : Cell) → valueIn c (pointAt p (contactAt numbers floats k)) ≡ getD (row floatsWidth k floats) (pointPlace p + place c) nan
+  cell-is : (c : Cell) → inCell c (pointAt p (contactAt numbers floats k)) ≡ getD (row floatsWidth k floats) (pointPlace p + place c) nan
   cell-is c =
-      ap (λ q. valueIn c (pointAt p q)) (contact-there numbers floats k has-numbers has-floats)
-      ∙ ap (valueIn c) (point-of (row 3 k numbers) (row floatsWidth k floats) p of-two)
-      ∙ in-point c (part (pointPlace p) pointWidth (row floatsWidth k floats))
-      ∙ part-at (pointPlace p) pointWidth (row floatsWidth k floats) (place c) nan (inside c)
+      ap (λ q. inCell c (pointAt p q)) (contact-there numbers floats k has-numbers has-floats)
+      ∙ ap (inCell c) (point-of (row numbersWidth k numbers) (row floatsWidth k floats) p of-two)
+      ∙ cell-read c (part (pointPlace p) pointWidth (row floatsWidth k floats))
+      ∙ part-at (pointPlace p) pointWidth (row floatsWidth k floats) (place c) nan (cell-fits c)
 
   loads-line : LoadsLine numbers floats kept k p
   unfolding iLine
   loads-line =
       ap (line 73 (k ∷ p ∷ []))
-      (each-same _ _ (λ c. row-printed (pointPlace p + place c) (omega (arith, inside c)) (cell-is c)) loads)
+      (each-same _ _ (λ c. row-printed (pointPlace p + place c) (omega (arith, cell-fits c)) (cell-is c)) loads)
 
 -- every contact of a text has its three numbers beside its floats, and the call leaves as many floats as were read
 pub loads-are-impulses : LoadsAreImpulses

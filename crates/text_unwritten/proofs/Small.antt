@@ -5,7 +5,7 @@ use mathlib.Core.List.{List, [], _∷_, _++_}
 use mathlib.Core.Path.{_≡_, refl}
 use lib.Dec.{eqb, ltb}
 use lib.ListN.{length, take}
-use Rattle.base_places.specs.Places.{mostInLine}
+use Rattle.base_places.specs.Lengths.{mostInLine}
 use Rattle.text_digits.specs.declared.Number.{Number}
 use Rattle.text_digits.specs.declared.Number.the-variants.{Is, No}
 use Rattle.text_fields.specs.Fields.{None, Nothing, Says, Taken, These, Values, ended, fields, inForm, onward, takes, thenBits, values}

@@ -6,9 +6,8 @@ use mathlib.Core.Path.{_≡_}
 use lib.Ieee.{Float}
 use lib.ListN.{getD}
 use Rattle.base_places.specs.Places.{floatsWidth, place, pointPlace}
-use Rattle.base_places.specs.declared.Cell.{Cell}
-use Rattle.base_places.specs.declared.Cell.the-variants.{NormalImpulse, TangentImpulse}
 use Rattle.base_rows.specs.Rows.{row, rows}
+use Rattle.step_contact.specs.Cells.{inCell}
 use Rattle.step_contact.specs.declared.Contact.{Contact}
 use Rattle.step_contact.specs.declared.ContactPoint.{ContactPoint}
 use Rattle.list_tables.specs.Tables.{contactAt}
@@ -24,18 +23,13 @@ abbrev pub pointAt : ℕ → Contact → ContactPoint
 pointAt zero c = c .a
 pointAt (suc p) c = c .b
 
--- what a point holds in a cell
-abbrev pub valueIn : Cell → ContactPoint → Float
-valueIn NormalImpulse q = q .«normal_part» .impulse
-valueIn TangentImpulse q = q .«tangent_part» .impulse
-
 -- the I line of point p of contact k, from the floats that the call left and the bits kept beside them: after its two numbers, what is
 -- printed of the contact's loads there
 abbrev pub LoadsLine : List ℕ → List Float → List ℕ → ℕ → ℕ → Type 0
 LoadsLine numbers floats kept k p =
     let point = pointAt p (contactAt numbers floats k) in
     iLine (prints floats kept) k p
-    ≡ line 73 (k ∷ p ∷ []) (map (λ c. printed (valueIn c point) (getD (row floatsWidth k kept) (pointPlace p + place c) 0)) loads)
+    ≡ line 73 (k ∷ p ∷ []) (map (λ c. printed (inCell c point) (getD (row floatsWidth k kept) (pointPlace p + place c) 0)) loads)
 
 -- of a text that was read to its end, t being what it says: so is the I line of every point of every contact
 abbrev pub LoadsAreImpulses : Type 0

@@ -4,7 +4,7 @@ use native.Mathlib.Nat.{suc-mul}
 use native.Mathlib.Omega.{arith}
 use mathlib.Core.List.{List, [], _∷_}
 use lib.ListN.{getD, length, length-append}
-use Rattle.base_places.specs.Places.{floatBytes, lineBytes}
+use Rattle.base_places.specs.Lengths.{floatBytes, lineBytes}
 use Rattle.text_digits.specs.Digits.{decField, hexField}
 use Rattle.text_digits.proofs.Lengths.{dec-field, hex-field, short-field}
 use Rattle.text_write.specs.Lines.{each, eLine, joined, line, rLine, xLine}
