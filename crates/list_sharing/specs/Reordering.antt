@@ -1,7 +1,8 @@
 -- Demand 3 of lists of steps, on any tables whatsoever: the call's is `Demand3`. Proved in proofs/Reordering.antt. Assumes nothing.
-use mathlib.Core.List.{List}
+use mathlib.Core.List.{List, []}
 use Rattle.list_tables.specs.Tables.{stepAs}
 use Rattle.list_tables.specs.declared.Step.{Step}
+use Rattle.list_cells.specs.Cells.{answerOf}
 use Rattle.list_cells.specs.declared.Answer.{Answer}
 use Rattle.base_order.specs.Reordered.{Reordered, SameOutcome}
 use Rattle.list_rules.specs.Sweep.{Tables, stepOn}
@@ -9,7 +10,7 @@ use Rattle.list_sharing.specs.Sharing.{Shares}
 
 -- what stands in for an answer past a list's end
 abbrev pub noAnswer : Answer
-noAnswer = record { number = 0; branch = 0 }
+noAnswer = answerOf []
 
 abbrev pub ListsReordered : Type 0
 ListsReordered =

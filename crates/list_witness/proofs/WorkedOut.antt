@@ -15,7 +15,7 @@ use Rattle.step_values.specs.Values.{belowCount, finiteHead, finiteNormal, fini
 use Rattle.step_rules.specs.Step.{asRead, asWritten, asked, checks, conditions, firstOr, holdsOf, reads, step, tried, writes, writtenVels}
 use Rattle.base_rows.specs.Rows.{onPart, onRow, part, readRow}
 use Rattle.list_tables.specs.Tables.{contactAt, contactOf, headOf, normalOf, pointOf, tangentOf, velAt, velOf}
-use Rattle.list_cells.specs.Cells.{putCells, putContact, putIf, putImpulses, putPoint, putVel, velRow}
+use Rattle.list_cells.specs.Cells.{answerOf, putCells, putContact, putIf, putImpulses, putPoint, putVel, velRow}
 use Rattle.base_order.specs.OneByOne.{answers, any, finish}
 use Rattle.list_rules.specs.Sweep.{answered, itsContact, ifThere, newBodies, newFloats, outcome, stepOn, velsAt}
 use Rattle.list_witness.specs.Witness.{falling, foot, heel, minus-half, toe}
@@ -25,7 +25,7 @@ use Rattle.list_witness.specs.Twice.{TwiceTheSame}
 pub worked-out : (finish stepOn (heel ∷ toe ∷ []) falling ≡ foot zero minus-half half half)
     × (finish stepOn (toe ∷ heel ∷ []) falling ≡ foot zero zero zero one)
     × TwiceTheSame
-unfolding any finish answers stepOn answered outcome itsContact newBodies newFloats ifThere velsAt contactAt readRow contactOf headOf pointOf normalOf
+unfolding any finish answers answerOf stepOn answered outcome itsContact newBodies newFloats ifThere velsAt contactAt readRow contactOf headOf pointOf normalOf
     tangentOf part velAt velOf step tried conditions asked checks holdsOf firstOr asRead reads asWritten writtenVels writes kindAbove wrongBodies wrongCount pairOfOne notFinite notFiniteVels
     finiteHead finiteNormal finiteTangent finitePoint finiteVel belowCount outOfRange headOut pointOut floorMoves unwritable lostImpulse finite
     routine pointsFor stores kindOf kinds overPoints turn atPoint normalAt normalLeft normal normalMoved normalImpulse normalWith warmStart warmNormalAt warmTangentAt normalWarm tangentWarm

@@ -7,6 +7,7 @@ use lib.Ieee.{Float, binary32, ofBits}
 use Rattle.elem_leaves.specs.Floats.{zero}
 use Rattle.list_tables.specs.Tables.{stepAs}
 use Rattle.list_tables.specs.declared.Step.{Step}
+use Rattle.list_cells.specs.Cells.{answerOf}
 use Rattle.list_cells.specs.declared.Answer.{Answer}
 use Rattle.base_order.specs.OneByOne.{answers}
 use Rattle.list_rules.specs.Sweep.{stepOn}
@@ -22,7 +23,7 @@ warm = stepAs 1 0
 
 -- a number, of a step without a branch
 abbrev pub numbered : ℕ → Answer
-numbered n = record { number = n; branch = 0 }
+numbered n = answerOf (n ∷ [])
 
 -- the foot takes up a huge push; taking it up once more would be too much for the arithmetic
 abbrev pub TwiceTheSame : Type 0
