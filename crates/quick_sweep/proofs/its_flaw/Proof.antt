@@ -9,7 +9,7 @@ raised-requires : tie.Need-raised-requires
 raised-requires c κs = search needs
 
 returns : tie.Need-returns
-returns c = by-flag _ _ _ ((c .before .before .before .before .before .before .pre)) ((c .before .raised .ensures)) ((c .if1 .taken))
+returns c = search by-flag
 
 contact-at-requires : tie.Need-contact-at-requires
 contact-at-requires c κs = search needs

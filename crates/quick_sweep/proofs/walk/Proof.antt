@@ -16,7 +16,7 @@ abbrev μ-loop : tie.MeasureT-loop
     n - i
 
 loop-holds : tie.Need-loop-holds Inv-loop μ-loop
-loop-holds c = at-start _ _ _ _ _ _ _ ((c .before .before .before .before .before .before .pre))
+loop-holds c = search at-start
 
 next-step-requires : tie.Need-next-step-requires Inv-loop μ-loop
 next-step-requires c κs = search still-right

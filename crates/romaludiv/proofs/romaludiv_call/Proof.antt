@@ -17,7 +17,7 @@ same-length-3 : tie.Need-same-length-3
 same-length-3 c = search needs
 
 returns : tie.Need-returns
-returns c = c .before .before .before .before .before .before .call .ensures
+returns c = search needs
 
 pub romaludiv-call-spec : {M : Type 1} → statement M
 romaludiv-call-spec =

@@ -9,25 +9,25 @@ lost-vel-requires : tie.Need-lost-vel-requires
 lost-vel-requires c κs = search needs
 
 returns : tie.Need-returns
-returns c = is-lost1 _ _ ((c .before .lost-vel .ensures)) ((c .if1 .taken))
+returns c = search is-lost1
 
 lost-vel-requires-2 : tie.Need-lost-vel-requires-2
 lost-vel-requires-2 c κs = search needs
 
 returns-2 : tie.Need-returns-2
-returns-2 c = is-lost2 _ _ ((c .before .before .before .lost-vel .ensures)) ((c .before .before .if1 .left)) ((c .before .lost-vel2 .ensures)) ((c .if2 .taken))
+returns-2 c = search is-lost2
 
 lost-at-requires : tie.Need-lost-at-requires
 lost-at-requires c κs = search needs
 
 returns-3 : tie.Need-returns-3
-returns-3 c = is-lost-a _ _ ((c .before .before .before .before .before .lost-vel .ensures)) ((c .before .before .before .before .if1 .left)) ((c .before .before .before .lost-vel2 .ensures)) ((c .before .before .if2 .left)) ((c .before .lost-at .ensures)) ((c .if3 .taken))
+returns-3 c = search is-lost-a
 
 lost-at-requires-2 : tie.Need-lost-at-requires-2
 lost-at-requires-2 c κs = search needs
 
 returns-4 : tie.Need-returns-4
-returns-4 c = is-lost-b _ _ ((c .before .before .before .before .before .before .lost-vel .ensures)) ((c .before .before .before .before .before .if1 .left)) ((c .before .before .before .before .lost-vel2 .ensures)) ((c .before .before .before .if2 .left)) ((c .before .before .lost-at .ensures)) ((c .before .if3 .left)) ((c .lost-at2 .ensures))
+returns-4 c = search is-lost-b
 
 pub unwritable-spec : {M : Type 1} → statement M
 unwritable-spec =
