@@ -39,7 +39,7 @@ longestText =
 abbrev pub deciding : ℕ
 deciding = longestText + mostInLine + 1
 
--- the longest output, 9,550 bytes: an A for each step, all B, an I for each point, E
+-- no output is longer than 9,550 bytes: an A for each step, all B, an I for each point, E
 abbrev pub longestOutput : ℕ
 longestOutput =
     programSteps * lineBytes answerWidth 0

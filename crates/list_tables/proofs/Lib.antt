@@ -2,3 +2,4 @@ pub mod Contacts
 pub mod Floats
 pub mod Velocities
 pub mod Steps
+pub mod InOrder

@@ -52,7 +52,7 @@ pub record ReadFields (form : Form) (s : List ℕ) (from n : ℕ) (r : Got) : Ty
   pub is : gotFrom (r .good) (r .next) (r .values) n s ≡ takes form [] n (fieldsFrom s from)
   pub small : Small (most form) (r .values)
 
--- what a row's first cells say
+-- what a row's first numbers say
 unfoldable pub rowSays : Letter → Row → Values
 rowSays l r = if r .good then Says (take (asked Decimal l) (r .numbers)) (take (asked Hex l) (r .bits)) else Nothing
 

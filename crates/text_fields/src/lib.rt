@@ -102,24 +102,24 @@ pub fn line_letter(line: &[u8]) -> Letter
 pub fn adds(l: Letter) -> Counts
     ensures { λ r. ⌜ Adds l r ⌝ }
 {
-    let mut cells = Counts {
+    let mut counts = Counts {
         bodies: 0,
         numbers: 0,
         floats: 0,
         steps: 0,
     };
     match l {
-        Letter::Body => cells.bodies = BODY_WIDTH,
+        Letter::Body => counts.bodies = BODY_WIDTH,
         Letter::Contact => {
-            cells.numbers = NUMBERS_WIDTH;
-            cells.floats = HEAD_WIDTH;
+            counts.numbers = NUMBERS_WIDTH;
+            counts.floats = HEAD_WIDTH;
         }
-        Letter::Normal => cells.floats = NORMAL_WIDTH,
-        Letter::Tangent => cells.floats = TANGENT_WIDTH,
-        Letter::Step => cells.steps = STEP_WIDTH,
+        Letter::Normal => counts.floats = NORMAL_WIDTH,
+        Letter::Tangent => counts.floats = TANGENT_WIDTH,
+        Letter::Step => counts.steps = STEP_WIDTH,
         Letter::Other => {}
     }
-    cells
+    counts
 }
 
 fn number(form: Form, s: &[u8]) -> Number
@@ -182,10 +182,10 @@ fn read_fields(form: Form, s: &[u8], from: usize, n: usize) -> Got
 pub fn read_row(l: Letter, line: &[u8]) -> Row
     ensures { λ r. ⌜ ReadRow l (now (line .entry)) r ⌝ }
 {
-    let cells = adds(l);
+    let counts = adds(l);
     let end = field_end(line, 0);
-    let first = read_fields(Form::Decimal, line, end + 1, cells.numbers + cells.steps);
-    let second = read_fields(Form::Hex, line, first.next, cells.bodies + cells.floats);
+    let first = read_fields(Form::Decimal, line, end + 1, counts.numbers + counts.steps);
+    let second = read_fields(Form::Hex, line, first.next, counts.bodies + counts.floats);
     let numbers = first.values;
     let bits = second.values;
     let next = second.next;

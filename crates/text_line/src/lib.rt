@@ -149,11 +149,11 @@ fn is_full(
     requires { ⌜ Sane st (now bodies) (now numbers) (now floats) (now steps) ⌝ }
     ensures { λ r. ⌜ Full l st (now (bodies .entry)) (now (numbers .entry)) (now (floats .entry)) (now (steps .entry)) r ⌝ }
 {
-    let cells = text_fields::adds(l);
-    let no_bodies = lacks(bodies.len(), st.bodies, cells.bodies);
-    let no_numbers = lacks(numbers.len(), st.numbers, cells.numbers);
-    let no_floats = lacks(floats.len(), st.floats, asks_floats(l, cells.floats));
-    let no_steps = lacks(steps.len(), st.steps, cells.steps);
+    let counts = text_fields::adds(l);
+    let no_bodies = lacks(bodies.len(), st.bodies, counts.bodies);
+    let no_numbers = lacks(numbers.len(), st.numbers, counts.numbers);
+    let no_floats = lacks(floats.len(), st.floats, asks_floats(l, counts.floats));
+    let no_steps = lacks(steps.len(), st.steps, counts.steps);
     no_bodies | no_numbers | no_floats | no_steps
 }
 
@@ -198,15 +198,15 @@ fn put_row(
         (now (bodies .entry)) (now (numbers .entry)) (now (floats .entry)) (now (steps .entry)) r
         (now (bodies .exit)) (now (numbers .exit)) (now (floats .exit)) (now (steps .exit)) ⌝ }
 {
-    let cells = text_fields::adds(l);
+    let counts = text_fields::adds(l);
     let said = row.numbers;
     let bits = row.bits;
     State {
         place,
-        bodies: append_bits(bodies, st.bodies, bits, cells.bodies),
-        numbers: append_numbers(numbers, st.numbers, said, cells.numbers),
-        floats: append_bits(floats, st.floats, bits, cells.floats),
-        steps: append_numbers(steps, st.steps, said, cells.steps),
+        bodies: append_bits(bodies, st.bodies, bits, counts.bodies),
+        numbers: append_numbers(numbers, st.numbers, said, counts.numbers),
+        floats: append_bits(floats, st.floats, bits, counts.floats),
+        steps: append_numbers(steps, st.steps, said, counts.steps),
     }
 }
 
