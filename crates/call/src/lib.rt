@@ -1,10 +1,9 @@
 // The call that the workshop's programs make: tables, a list of steps and room for answers are lent,
 // and the steps are done one by one, unless the whole call is refused. It asks nothing of its caller.
-use base_places::STEP_WIDTH;
 use list_checks::whole_call;
+use list_tables::steps_among;
 use quick_sweep::sweep;
 ghost use mathlib.Core.Path.{_≡_};
-ghost use Prim.Native.Nat.{min};
 ghost use Rattle.list_rules.specs.Sweep.{tables};
 ghost use Rattle.call_rules.specs.Call.{end, lend};
 ghost use Rattle.call_rules.specs.Demands.{Demand2};
@@ -15,12 +14,6 @@ pub struct Report {
     pub refusal: u16,
     pub done: usize,
     pub refused: usize,
-}
-
-fn smaller(a: usize, b: usize) -> usize
-    ensures { λ r. ⌜ r ≡ min a b ⌝ }
-{
-    if a <= b { a } else { b }
 }
 
 // The rows of each stretch are as wide as base_places says. Bodies: x, y and angular w. Contacts: numbers (body 1, body 2,
@@ -43,7 +36,7 @@ pub fn call(
             refused: 0,
         };
     }
-    let done = smaller(budget, steps.len() / STEP_WIDTH);
+    let done = steps_among(steps, budget);
     let refused = sweep(bodies, numbers, floats, steps, room, done);
     Report {
         refusal: 0,

@@ -23,9 +23,9 @@ use Rattle.list_rules.proofs.Room.{answer-read, room-past, tables-are, tables-s
 use Rattle.list_checks.specs.Checks.{wholeCall}
 use Rattle.list_checks.proofs.Passed as passed
 use Rattle.call_rules.specs.Call.{Ended, Lent, allDone, nothingDone, oneByOne, stepsDone}
-use Rattle.call_rules.specs.Few.{FewTold}
-use Rattle.call_rules.specs.Room.{RoomKept}
-use Rattle.call_rules.specs.Demands.{Demand1, Demand2, before, numberOf}
+use Rattle.call_rules.specs.Few.{FewTold, TellsFew}
+use Rattle.call_rules.specs.Room.{KeepsRoom, RoomKept}
+use Rattle.call_rules.specs.Demands.{Demand2, MeetsDemand1, before, numberOf}
 
 -- how a call ended: refused by its number, or all done
 module _ (lent : Lent) (budget : ℕ) (e : Ended) (so : Demand2 lent budget e) where
@@ -75,14 +75,18 @@ module _ (lent : Lent) (budget : ℕ) (e : Ended) (so : Demand2 lent budget e) w
         let room : rows stepWidth (lent .steps) ≤ rows answerWidth (lent .room) = passed.room-enough (lent .tables) (lent .steps) (lent .room) (passed-all how) in
         let many : e .done ≡ done = ap (λ (x : Ended). x .done) is in
         ap (λ (x : Ended). answerOf (row answerWidth i (x .room)) .number) is
-        ∙ ap (λ (a : Answer). a .number) (answer-read (lent .steps) (lent .tables) (lent .room) done i (omega arith) (omega arith))
+        ∙ ap (λ (a : Answer). a .number) (answer-read (lent .steps) (lent .tables) (lent .room) done i (omega arith) (omega arith) (omega arith))
         ∙ ap (λ (t : Tables). stepOn (stepAt (lent .steps) i) t .answer .number) (tables-are (lent .steps) (lent .tables) (lent .room) i)
+
+    pub in-list : i < rows stepWidth (lent .steps)
+    unfolding allDone
+    in-list = let many : e .done ≡ done = ap (λ (x : Ended). x .done) (not-refused how) in omega arith
 
     next : before lent (suc i) ≡ stepOn (stepAt (lent .steps) i) (before lent i) .after
     unfolding before
     next =
         sym (tables-are (lent .steps) (lent .tables) (lent .room) (suc i))
-        ∙ tables-suc (lent .steps) (lent .tables) (lent .room) i
+        ∙ tables-suc (lent .steps) (lent .tables) (lent .room) i in-list
         ∙ ap (λ (t : Tables). stepOn (stepAt (lent .steps) i) t .after) (tables-are (lent .steps) (lent .tables) (lent .room) i)
 
   wrote-nothing : How → e .refusal ≢ 0 → e ≡ nothingDone (e .refusal) lent
@@ -102,7 +106,7 @@ module _ (lent : Lent) (budget : ℕ) (e : Ended) (so : Demand2 lent budget e) w
   past-done (refused-by nz is) i h = ap (λ (x : Ended). row answerWidth i (x .room)) is
   past-done (all-done z is) i h =
       let many : e .done ≡ done = ap (λ (x : Ended). x .done) is in
-      ap (λ (x : Ended). row answerWidth i (x .room)) is ∙ room-past (lent .steps) (lent .tables) (lent .room) done i (omega arith)
+      ap (λ (x : Ended). row answerWidth i (x .room)) is ∙ room-past (lent .steps) (lent .tables) (lent .room) done i (omega arith) (omega arith)
 
   few : How → FewTold e
   unfolding nothingDone allDone
@@ -113,11 +117,11 @@ module _ (lent : Lent) (budget : ℕ) (e : Ended) (so : Demand2 lent budget e) w
       let room : rows stepWidth (lent .steps) ≤ rows answerWidth (lent .room) = passed.room-enough (lent .tables) (lent .steps) (lent .room) z in
       let many : e .done ≡ done = ap (λ (x : Ended). x .done) is in
       record {
-        answers = λ j h. rw (ap (λ (x : Ended). x .room) is) (told-few (lent .steps) (lent .tables) (lent .room) done (omega arith) j (omega arith));
+        answers = λ j h. rw (ap (λ (x : Ended). x .room) is) (told-few (lent .steps) (lent .tables) (lent .room) done (omega arith) (omega arith) j (omega arith));
         refused = rw (ap (λ (x : Ended). x .refused) is, many) (few-refused (lent .steps) (lent .tables) (lent .room) done);
       }
 
-pub demand1 : (lent : Lent) (budget : ℕ) (e : Ended) → Demand2 lent budget e → Demand1 lent budget e
+pub demand1 : MeetsDemand1
 demand1 lent budget e so =
     let ended = how lent budget e so in
     record {
@@ -131,8 +135,8 @@ demand1 lent budget e so =
       goes-on = went-on lent budget e so ended;
     }
 
-pub room-kept : (lent : Lent) (budget : ℕ) (e : Ended) → Demand2 lent budget e → RoomKept lent e
+pub room-kept : KeepsRoom
 room-kept lent budget e so = past-done lent budget e so (how lent budget e so)
 
-pub few-told : (lent : Lent) (budget : ℕ) (e : Ended) → Demand2 lent budget e → FewTold e
+pub few-told : TellsFew
 few-told lent budget e so = few lent budget e so (how lent budget e so)

@@ -1,5 +1,6 @@
 -- Demand 3: two calls on the same tables whose lists differ only in the order of steps that share nothing. Assumes nothing.
 use Prim.Native.Nat.{ℕ, _≤_, _<_}
+use native.Mathlib.Nat.{le-refl}
 use native.Mathlib.Omega.{arith}
 use mathlib.Core.List.{List}
 use mathlib.Core.Path.{_≡_, sym, _∙_, ap}
@@ -20,7 +21,7 @@ use Rattle.list_checks.specs.Checks.{wholeCall}
 use Rattle.list_checks.proofs.Alike.{checked-alike}
 use Rattle.list_checks.proofs.Passed as passed
 use Rattle.call_rules.specs.Call.{Ended, Lent, allDone, nothingDone, stepsDone}
-use Rattle.call_rules.specs.Demands.{Demand3, Rearranged, SameEnd, answerTo, stepsOf}
+use Rattle.call_rules.specs.Demands.{Demand3, Demand3Accepted, Matched, Rearranged, SameEnd, answerTo, stepsOf}
 use Rattle.call_rules.proofs.Demands.{How, all-done, how, refused-by}
 
 -- a call that is not refused and runs to its list's end
@@ -59,32 +60,57 @@ module _ (lent : Lent) (budget : ℕ) (e : Ended) (enough : rows stepWidth (lent
   unfolding allDone
   tells i h =
       ap (λ (x : Ended). answerTo i x) is-all
-      ∙ answer-told (lent .steps) (lent .tables) (lent .room) noAnswer list i h (passed.room-enough (lent .tables) (lent .steps) (lent .room) passes)
+      ∙ answer-told (lent .steps) (lent .tables) (lent .room) noAnswer list i h (le-refl list)
+      (passed.room-enough (lent .tables) (lent .steps) (lent .room) passes)
 
-module _ (one two : Lent) (m : Rearranged one two) where
-  -- the lists are as long
+-- two lists that are so matched, on the same tables
+module _ (one two : Lent) (same-tables : two .tables ≡ one .tables) (m : Matched one two) where
+  many : (lent : Lent) → length (stepsOf lent) ≡ rows stepWidth (lent .steps)
+  many lent = length-first (lent .steps) (rows stepWidth (lent .steps)) (le-refl (rows stepWidth (lent .steps)))
+
+  -- they are as long
   as-many : rows stepWidth (two .steps) ≡ rows stepWidth (one .steps)
-  as-many =
-      sym (length-first (two .steps) (rows stepWidth (two .steps)))
-      ∙ same-length (stepsOf one) (stepsOf two) (m .matching)
-      ∙ length-first (one .steps) (rows stepWidth (one .steps))
+  as-many = sym (many two) ∙ same-length (stepsOf one) (stepsOf two) m ∙ many one
 
-  -- the checks find the same
-  alike : first (wholeCall (two .tables) (two .steps) (two .room)) ≡ first (wholeCall (one .tables) (one .steps) (one .room))
-  alike =
-      rw (m .same-tables)
-      (ap first (checked-alike (one .tables) (one .steps) (one .room) (two .steps) (two .room) as-many (m .steps-whole) (m .room-whole) (m .room-enough)
-      (λ test. same-any test (stepsOf one) (stepsOf two) (m .matching))))
+  -- one by one, they come to the same
+  same : SameOutcome stepOn (m .there) noAnswer (stepsOf one) (stepsOf two) (one .tables)
+  same = lists-reordered (stepsOf one) (stepsOf two) (one .tables) m
 
-  -- one by one, the lists come to the same
-  same : SameOutcome stepOn (m .matching .there) noAnswer (stepsOf one) (stepsOf two) (one .tables)
-  same = lists-reordered (stepsOf one) (stepsOf two) (one .tables) (m .matching)
+  -- and so do two calls with them that are not refused and run to their ends
+  module _ (budget budget′ : ℕ) (e e′ : Ended) (enough : rows stepWidth (one .steps) ≤ budget) (enough′ : rows stepWidth (two .steps) ≤ budget′)
+      (z : first (wholeCall (one .tables) (one .steps) (one .room)) ≡ 0) (z′ : first (wholeCall (two .tables) (two .steps) (two .room)) ≡ 0)
+      (is : e ≡ allDone (stepsDone one budget) (sweep (one .steps) (stepsDone one budget) (one .tables) (one .room)))
+      (is′ : e′ ≡ allDone (stepsDone two budget′) (sweep (two .steps) (stepsDone two budget′) (two .tables) (two .room))) where
+    each : (i : ℕ) → i < rows stepWidth (one .steps) → answerTo (m .there i) e′ ≡ answerTo i e
+    each i h =
+        let inside : i < length (stepsOf one) = rw (many one) h in
+        let there-inside : m .there i < rows stepWidth (two .steps) = rw (many two) at (m .there-inside i inside) in
+        tells two budget′ e′ enough′ z′ is′ (m .there i) there-inside
+        ∙ rw same-tables (same .same-answer i inside)
+        ∙ sym (tells one budget e enough z is i h)
+
+    both-done : SameEnd (m .there) e e′
+    both-done = record {
+      refused-alike = none-refused two budget′ e′ enough′ z′ is′ ∙ sym (none-refused one budget e enough z is);
+      same-answers = λ i h. each i (rw (all-steps one budget e enough z is) at h);
+      same-bits = ends-in two budget′ e′ enough′ z′ is′ ∙ rw same-tables (same .same-end) ∙ sym (ends-in one budget e enough z is);
+      same-done = all-steps two budget′ e′ enough′ z′ is′ ∙ as-many ∙ sym (all-steps one budget e enough z is);
+      same-refused = refuses two budget′ e′ enough′ z′ is′ ∙ rw same-tables (same .same-count isRefused) ∙ sym (refuses one budget e enough z is);
+    }
+
+-- the checks find the same
+alike : (one two : Lent) → Rearranged one two
+    → first (wholeCall (two .tables) (two .steps) (two .room)) ≡ first (wholeCall (one .tables) (one .steps) (one .room))
+alike one two m =
+    rw (m .same-tables)
+    (ap first (checked-alike (one .tables) (one .steps) (one .room) (two .steps) (two .room) (as-many one two (m .same-tables) (m .matching))
+    (m .steps-whole) (m .room-whole) (m .room-enough) (λ test. same-any test (stepsOf one) (stepsOf two) (m .matching))))
 
 pub demand3 : Demand3
 unfolding nothingDone
 demand3 one two budget budget′ e e′ so so′ enough enough′ m = by-case (how one budget e so) (how two budget′ e′ so′)
   where
-    by-case : How one budget e so → How two budget′ e′ so′ → SameEnd one two m e e′
+    by-case : How one budget e so → How two budget′ e′ so′ → SameEnd (m .matching .there) e e′
     by-case (refused-by nz is) (refused-by nz′ is′) = record {
       refused-alike = ap (λ (x : Ended). x .refusal) is′ ∙ alike one two m ∙ sym (ap (λ (x : Ended). x .refusal) is);
       same-answers = λ i h. absurd (omega (arith, ap (λ (x : Ended). x .done) is));
@@ -94,22 +120,13 @@ demand3 one two budget budget′ e e′ so so′ enough enough′ m = by-case (h
     }
     by-case (refused-by nz is) (all-done z is′) = absurd (nz (sym (alike one two m) ∙ z))
     by-case (all-done z is) (refused-by nz′ is′) = absurd (nz′ (alike one two m ∙ z))
-    by-case (all-done z is) (all-done z′ is′) =
-        let r : SameOutcome stepOn (m .matching .there) noAnswer (stepsOf one) (stepsOf two) (one .tables) = same one two m in
-        record {
-          refused-alike = none-refused two budget′ e′ enough′ z′ is′ ∙ sym (none-refused one budget e enough z is);
-          same-answers = λ i h. each i (rw (all-steps one budget e enough z is) at h) r;
-          same-bits = ends-in two budget′ e′ enough′ z′ is′ ∙ rw (m .same-tables) (r .same-end) ∙ sym (ends-in one budget e enough z is);
-          same-done = all-steps two budget′ e′ enough′ z′ is′ ∙ as-many one two m ∙ sym (all-steps one budget e enough z is);
-          same-refused = refuses two budget′ e′ enough′ z′ is′ ∙ rw (m .same-tables) (r .same-count isRefused) ∙ sym (refuses one budget e enough z is);
-        }
-      where
-        each : (i : ℕ) → i < rows stepWidth (one .steps) → SameOutcome stepOn (m .matching .there) noAnswer (stepsOf one) (stepsOf two) (one .tables)
-            → answerTo (m .matching .there i) e′ ≡ answerTo i e
-        each i h r =
-            let inside : i < length (stepsOf one) = rw (length-first (one .steps) (rows stepWidth (one .steps))) h in
-            let there-inside : m .matching .there i < rows stepWidth (two .steps) =
-            rw (length-first (two .steps) (rows stepWidth (two .steps))) at (m .matching .there-inside i inside) in
-            tells two budget′ e′ enough′ z′ is′ (m .matching .there i) there-inside
-            ∙ rw (m .same-tables) (r .same-answer i inside)
-            ∙ sym (tells one budget e enough z is i h)
+    by-case (all-done z is) (all-done z′ is′) = both-done one two (m .same-tables) (m .matching) budget budget′ e e′ enough enough′ z z′ is is′
+
+pub demand3-accepted : Demand3Accepted
+unfolding nothingDone
+demand3-accepted one two budget budget′ e e′ so so′ ok ok′ same-tables enough enough′ m = by-case (how one budget e so) (how two budget′ e′ so′)
+  where
+    by-case : How one budget e so → How two budget′ e′ so′ → SameEnd (m .there) e e′
+    by-case (refused-by nz is) _ = absurd (nz (sym (ap (λ (x : Ended). x .refusal) is) ∙ ok))
+    by-case (all-done z is) (refused-by nz′ is′) = absurd (nz′ (sym (ap (λ (x : Ended). x .refusal) is′) ∙ ok′))
+    by-case (all-done z is) (all-done z′ is′) = both-done one two same-tables m budget budget′ e e′ enough enough′ z z′ is is′

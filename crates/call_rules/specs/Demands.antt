@@ -1,6 +1,9 @@
 -- What the user demands of a call, of everything that it may leave: `lent` is what was lent to it, `e` what it left. The call's contract
--- is `Demand2`; `Demand1` is proved of whatever meets it (proofs/Demands.antt), and `Demand3` of any two that do
--- (proofs/Reordered.antt). Assumes nothing.
+-- is `Demand2`. `Demand1` holds of whatever meets it (`MeetsDemand1`, proved in proofs/Demands.antt), and `Demand3` and `Demand3Accepted` are proved of
+-- any two that do (proofs/Reordered.antt). Assumes nothing.
+-- What the bits are: in the logic a float that is no NaN is its 32 bits, and there is one NaN. So equal tables have equal bits but for the
+-- payload of a cell that is a NaN in both. No done step writes a NaN (10); that a cell which no done step writes keeps its payload is
+-- tested of the library (host/rust/tests/payloads.rs) and proved of the text program, which prints the pattern that was read (docs/LOOSE.md).
 use Prim.Native.Nat.{ℕ, suc, _≤_, _<_}
 use mathlib.Core.Path.{_≡_}
 use mathlib.Core.List.{List}
@@ -49,27 +52,36 @@ pub record Demand1 (lent : Lent) (budget : ℕ) (e : Ended) : Type 0 where
 abbrev pub Demand2 : Lent → ℕ → Ended → Type 0
 Demand2 lent budget e = e ≡ oneByOne lent budget
 
+-- so whatever meets 2 meets 1
+abbrev pub MeetsDemand1 : Type 0
+MeetsDemand1 = (lent : Lent) (budget : ℕ) (e : Ended) → Demand2 lent budget e → Demand1 lent budget e
+
 -- all steps of a list, in its order
 abbrev pub stepsOf : Lent → List Step
 stepsOf lent = firstSteps (lent .steps) (rows stepWidth (lent .steps))
 
--- "Two lists of the same steps, in which any two steps that share a body or a contact stand in the same order", lent with the same tables.
--- What two steps share is read off the tables as lent
+-- "Two lists of the same steps, in which any two steps that share a body or a contact stand in the same order". What two steps share is
+-- read off the tables as lent
+abbrev pub Matched : Lent → Lent → Type 0
+Matched one two = Reordered (Shares (one .tables)) (stepAs 0 0) (stepsOf one) (stepsOf two)
+
+-- two such lists, lent with the same tables
 pub record Rearranged (one two : Lent) : Type 0 where
   pub same-tables : two .tables ≡ one .tables
-  pub matching : Reordered (Shares (one .tables)) (stepAs 0 0) (stepsOf one) (stepsOf two)
+  pub matching : Matched one two
   -- numbers 1 and 4 look at the lists' and the rooms' sizes: each is a whole number of rows in both calls or in neither ..
   pub steps-whole : uneven stepWidth (two .steps) ≡ uneven stepWidth (one .steps)
   pub room-whole : uneven answerWidth (two .room) ≡ uneven answerWidth (one .room)
   -- .. and the room is enough for the list in both or in neither
   pub room-enough : ltb (rows answerWidth (two .room)) (rows stepWidth (two .steps)) ≡ ltb (rows answerWidth (one .room)) (rows stepWidth (one .steps))
 
--- they "give each step the same answer and end in the same bits": e and e′ are what the two calls left
-pub record SameEnd (one two : Lent) (m : Rearranged one two) (e e′ : Ended) : Type 0 where
+-- they "give each step the same answer and end in the same bits": e and e′ are what the two calls left, and step i of the one stands at
+-- `there i` in the other
+pub record SameEnd (there : ℕ → ℕ) (e e′ : Ended) : Type 0 where
   -- both are refused alike or not at all
   pub refused-alike : e′ .refusal ≡ e .refusal
   -- each step has the same number and branch, wherever it stands
-  pub same-answers : (i : ℕ) → i < e .done → answerTo (m .matching .there i) e′ ≡ answerTo i e
+  pub same-answers : (i : ℕ) → i < e .done → answerTo (there i) e′ ≡ answerTo i e
   -- all bodies and all contacts
   pub same-bits : e′ .tables ≡ e .tables
   pub same-done : e′ .done ≡ e .done
@@ -79,5 +91,12 @@ pub record SameEnd (one two : Lent) (m : Rearranged one two) (e e′ : Ended) : 
 abbrev pub Demand3 : Type 0
 Demand3 =
     (one two : Lent) (budget budget′ : ℕ) (e e′ : Ended) → Demand2 one budget e → Demand2 two budget′ e′
-    → rows stepWidth (one .steps) ≤ budget → rows stepWidth (two .steps) ≤ budget′
-    → (m : Rearranged one two) → SameEnd one two m e e′
+    → rows stepWidth (one .steps) ≤ budget
+    → rows stepWidth (two .steps) ≤ budget′ → (m : Rearranged one two) → SameEnd (m .matching .there) e e′
+
+-- and with nothing asked of the sizes of lists and rooms: of any two calls that were both accepted
+abbrev pub Demand3Accepted : Type 0
+Demand3Accepted =
+    (one two : Lent) (budget budget′ : ℕ) (e e′ : Ended) → Demand2 one budget e → Demand2 two budget′ e′ → e .refusal ≡ 0 → e′ .refusal ≡ 0
+    → two .tables ≡ one .tables → rows stepWidth (one .steps) ≤ budget → rows stepWidth (two .steps) ≤ budget′
+    → (m : Matched one two) → SameEnd (m .there) e e′

@@ -8,7 +8,7 @@ use mathlib.Core.List.{List, [], _∷_}
 use mathlib.Core.Path.{_≡_, refl}
 use lib.Dec.{leb, ltb}
 use lib.ListN.{getD}
-use Rattle.base_places.specs.Places.{answerWidth, bodyWidth, floatsWidth}
+use Rattle.base_places.specs.Places.{answerWidth, bodyWidth, floatsWidth, stepWidth}
 use Rattle.base_words.specs.Choice.{if_then_else_}
 use Rattle.base_words.proofs.Said.{all-l, all-r}
 use Rattle.base_refusals.specs.Refusals.{Condition, first}
@@ -68,11 +68,11 @@ row-few s t zero = few-answers s t .0
 row-few s t (suc zero) = omega (arith, few-answers s t .1)
 row-few s t (suc (suc k)) = omega arith
 
-pub told-few : (steps : List ℕ) (t : Tables) (room : List ℕ) (n : ℕ) → n ≤ rows answerWidth room → (j : ℕ) → j < n * answerWidth
-    → getD (sweep steps n t room .room) j 0 ≤ 10
-told-few steps t room n fits j h =
+pub told-few : (steps : List ℕ) (t : Tables) (room : List ℕ) (n : ℕ) → n ≤ rows stepWidth steps → n ≤ rows answerWidth room
+    → (j : ℕ) → j < n * answerWidth → getD (sweep steps n t room .room) j 0 ≤ 10
+told-few steps t room n within fits j h =
     let all = sweep steps n t room .room in
     let i = j / answerWidth in
     let k = j % answerWidth in
     let at : getD (row answerWidth i all) k 0 ≡ getD all (i * answerWidth + k) 0 = part-at (i * answerWidth) answerWidth all k 0 (omega arith) in
-    rw (← div-add-mod' j answerWidth, ← at, answer-row steps t room n i (omega arith) fits) (row-few _ _ k)
+    rw (← div-add-mod' j answerWidth, ← at, answer-row steps t room n i (omega arith) within fits) (row-few _ _ k)

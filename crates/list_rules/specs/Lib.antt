@@ -1,3 +1,4 @@
 pub mod Sweep
+pub mod Whole
 pub mod Exact
 pub mod Few

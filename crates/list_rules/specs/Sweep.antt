@@ -4,7 +4,7 @@ use mathlib.Core.Bool.{Bool, not}
 use mathlib.Core.List.{List, [], _∷_, _++_}
 use lib.Dec.{eqb, ltb}
 use lib.Ieee.{Float}
-use Rattle.base_places.specs.Places.{bodyWidth, floatsWidth}
+use Rattle.base_places.specs.Places.{bodyWidth, floatsWidth, stepWidth}
 use Rattle.base_words.specs.Choice.{if_then_else_}
 use Rattle.elem_velocity.specs.declared.Vels.{Vels}
 use Rattle.step_contact.specs.declared.Contact.{Contact}
@@ -75,10 +75,11 @@ stepOn s t = record {
   after = tables (newBodies (itsContact s t .head) (outcome s t) (t .bodies)) (t .numbers) (newFloats s (outcome s t) (t .floats));
 }
 
--- the first n steps of a list
+-- the first n steps of a list, or all that it has
 unfoldable pub firstSteps : List ℕ → ℕ → List Step
 firstSteps steps zero = []
-firstSteps steps (suc n) = firstSteps steps n ++ (stepAt steps n ∷ [])
+firstSteps steps (suc n) =
+    if ltb n (rows stepWidth steps) then firstSteps steps n ++ (stepAt steps n ∷ []) else firstSteps steps n
 
 -- each answer in its row of the room, from row i on; all other room isn't touched
 unfoldable pub laid : ℕ → List Answer → List ℕ → List ℕ
@@ -98,7 +99,7 @@ pub record Swept : Type 0 where
 abbrev pub swept : Tables → List ℕ → ℕ → Swept
 swept t room refused = record { tables = t; room = room; refused = refused }
 
--- the first n steps, one by one
+-- the first n steps, or all that there are, one by one
 unfoldable pub sweep : List ℕ → ℕ → Tables → List ℕ → Swept
 sweep steps n t room =
     let given = answers stepOn (firstSteps steps n) t in

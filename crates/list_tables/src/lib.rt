@@ -20,9 +20,11 @@ use step_contact::ContactHead;
 use step_contact::ContactPoint;
 use step_contact::FLOOR;
 ghost use mathlib.Core.Path.{_≡_};
+ghost use Prim.Native.Nat.{min};
 ghost use lib.ListN.{length};
 ghost use Rattle.base_places.specs.Places.{bodyWidth, floatsWidth, headWidth, normalWidth, numbersWidth};
 ghost use Rattle.base_places.specs.Places.{pointWidth, stepWidth, tangentWidth};
+ghost use Rattle.base_rows.specs.Rows.{rows};
 ghost use Rattle.list_tables.specs.Tables.{contactAt, contactOf, headOf, normalOf, pointOf};
 ghost use Rattle.list_tables.specs.Tables.{stepAt, stepOf, tangentOf, velAt, velOf};
 
@@ -169,4 +171,12 @@ pub fn step_at(steps: &[u16], i: usize) -> Step
         contact: 0,
         kind: 0,
     }
+}
+
+// How many of its first n steps a list has.
+pub fn steps_among(steps: &[u16], n: usize) -> usize
+    ensures { λ r. ⌜ r ≡ min n (rows stepWidth (now (steps .entry))) ⌝ }
+{
+    let all = steps.len() / STEP_WIDTH;
+    if n <= all { n } else { all }
 }

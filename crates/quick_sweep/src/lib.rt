@@ -6,6 +6,7 @@ use list_cells::Answer;
 use list_cells::put_answer;
 use list_tables::contact_at;
 use list_tables::step_at;
+use list_tables::steps_among;
 use quick_flaws::flaw;
 use quick_flaws::pressing;
 use quick_step::step_on;
@@ -82,7 +83,7 @@ fn refusal(answer: Answer) -> usize
     if answer.number == 0 { 0 } else { 1 }
 }
 
-// The first n steps of the list, one by one; a refused step does not stop it. How many were refused.
+// The first n steps of the list, or all that it has, one by one; a refused step does not stop it. How many were refused.
 fn walk(
     bodies: &mut [f32],
     numbers: &[u16],
@@ -95,9 +96,10 @@ fn walk(
     requires { ⌜ Vouching (now flags) (tables (now bodies) (now numbers) (now floats)) ⌝ }
     ensures { λ r. ⌜ swept (tables (now (bodies .exit)) (now (numbers .entry)) (now (floats .exit))) (now (room .exit)) r ≡ sweep (now (steps .entry)) n (tables (now (bodies .entry)) (now (numbers .entry)) (now (floats .entry))) (now (room .entry)) ⌝ }
 {
+    let last = steps_among(steps, n);
     let mut i = 0;
     let mut refused = 0;
-    while i < n {
+    while i < last {
         let answer = next_step(bodies, numbers, floats, steps, room, flags, i);
         refused += refusal(answer);
         i += 1;

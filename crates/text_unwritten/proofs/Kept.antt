@@ -5,8 +5,8 @@ use native.Mathlib.Nat.{le-refl}
 use native.Mathlib.Omega.{arith}
 use mathlib.Core.Bool.{Bool, true, false}
 use mathlib.Core.Path.{_≡_, refl, _∙_, ap}
-use Rattle.base_places.specs.Places.{bodyWidth}
-use Rattle.base_rows.specs.Rows.{row}
+use Rattle.base_places.specs.Places.{bodyWidth, stepWidth}
+use Rattle.base_rows.specs.Rows.{row, rows}
 use Rattle.list_tables.specs.Tables.{stepAt}
 use Rattle.list_tables.specs.declared.Step.{Step}
 use Rattle.base_order.proofs.Snoc.{finish-none, finish-snoc}
@@ -18,17 +18,17 @@ use Rattle.list_sharing.proofs.Locality.{frame, same-shape}
 use Rattle.list_sharing.proofs.Own.{body-own}
 use Rattle.call_rules.specs.Call.{Ended, Lent, nothingDone}
 use Rattle.call_rules.specs.Demands.{Demand1, Demand2, before, numberOf}
-use Rattle.call_rules.proofs.Demands.{demand1}
+use Rattle.call_rules.proofs.Demands.{demand1, in-list}
 
 -- the tables before the first step, and before the next one
-pub before-none : (lent : Lent) → before lent 0 ≡ lent .tables
+before-none : (lent : Lent) → before lent 0 ≡ lent .tables
 unfolding before
 before-none lent = rw (first-none (lent .steps)) (finish-none stepOn (lent .tables))
 
-pub before-more : (lent : Lent) (n : ℕ) → before lent (suc n) ≡ stepOn (stepAt (lent .steps) n) (before lent n) .after
+before-more : (lent : Lent) (n : ℕ) → n < rows stepWidth (lent .steps) → before lent (suc n) ≡ stepOn (stepAt (lent .steps) n) (before lent n) .after
 unfolding before
-before-more lent n =
-    rw (first-more (lent .steps) n) (finish-snoc stepOn (firstSteps (lent .steps) n) (stepAt (lent .steps) n) (lent .tables))
+before-more lent n within =
+    rw (first-more (lent .steps) n within) (finish-snoc stepOn (firstSteps (lent .steps) n) (stepAt (lent .steps) n) (lent .tables))
 
 -- a step that does not name body i, by the tables as lent, leaves its row, on all tables of their shape
 step-keeps : (s : Step) (i : ℕ) (lent now : Tables) → shape now ≡ shape lent → (Names lent s i → ⊥)
@@ -53,7 +53,7 @@ module _ (lent : Lent) (budget : ℕ) (e : Ended) (so : Demand2 lent budget e) (
   -- step n was done, or it was refused
   one-more : (n : ℕ) → n < e .done → Stays (before lent n) → Dec (numberOf n e ≡ 0) → Stays (before lent (suc n))
   one-more n h stays (yes done) =
-      rw (before-more lent n) (record {
+      rw (before-more lent n (in-list lent budget e so n h)) (record {
         same = same-shape (stepAt (lent .steps) n) (before lent n) ∙ stays .same;
         there = step-keeps (stepAt (lent .steps) n) i (lent .tables) (before lent n) (stays .same) (unwritten n h done) ∙ stays .there;
       })

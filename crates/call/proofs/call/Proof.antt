@@ -19,8 +19,8 @@ same-length-3 c = search needs
 returns : tie.Need-returns
 returns c = search call-refused
 
-smaller-requires : tie.Need-smaller-requires
-smaller-requires c κs = search needs
+steps-among-requires : tie.Need-steps-among-requires
+steps-among-requires c κs = search needs
 
 sweep-requires : tie.Need-sweep-requires
 sweep-requires c κs = search needs
@@ -46,7 +46,7 @@ call-spec =
     same-length-2
     same-length-3
     returns
-    smaller-requires
+    steps-among-requires
     sweep-requires
     same-length-4
     same-length-5

@@ -8,12 +8,15 @@ use Rattle.quick_sweep.proofs.walk.Tie as tie
 use Rattle.quick_sweep.proofs.walk.Reads as reads
 
 abbrev Inv-loop : tie.InvT-loop
-Inv-loop bodies₀ numbers floats₀ steps room₀ flags₀ n i₀ refused₀ bodies floats room flags i refused =
-    SoFar steps n bodies₀ numbers floats₀ room₀ flags₀ bodies floats room flags i refused
+Inv-loop bodies₀ numbers floats₀ steps room₀ flags₀ n last i₀ refused₀ bodies floats room flags i refused =
+    SoFar steps last bodies₀ numbers floats₀ room₀ flags₀ bodies floats room flags i refused
 
 abbrev μ-loop : tie.MeasureT-loop
-μ-loop bodies₀ numbers floats₀ steps room₀ flags₀ n i₀ refused₀ bodies floats room flags i refused =
-    n - i
+μ-loop bodies₀ numbers floats₀ steps room₀ flags₀ n last i₀ refused₀ bodies floats room flags i refused =
+    last - i
+
+steps-among-requires : tie.Need-steps-among-requires Inv-loop μ-loop
+steps-among-requires c κs = search needs
 
 loop-holds : tie.Need-loop-holds Inv-loop μ-loop
 loop-holds c = search at-start
@@ -57,6 +60,7 @@ walk-spec =
     (tie.spec
     Inv-loop
     μ-loop
+    steps-among-requires
     loop-holds
     next-step-requires
     refusal-requires
