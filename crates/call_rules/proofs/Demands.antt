@@ -51,7 +51,7 @@ module _ (lent : Lent) (budget : ℕ) (e : Ended) (so : Demand2 lent budget e) w
       by-case false nz = refused-by (eqb-false number 0 nz) (so ∙ sym (pass _ nz refl))
 
   -- its refusal is the first of the whole call's conditions
-  is-number : How → e .refusal ≡ number
+  pub is-number : How → e .refusal ≡ number
   unfolding nothingDone allDone
   is-number (refused-by nz is) = ap (λ (x : Ended). x .refusal) is
   is-number (all-done z is) = ap (λ (x : Ended). x .refusal) is ∙ sym z

@@ -1,1 +1,3 @@
 pub mod Bounds
+pub mod Examples
+pub mod Refusals
