@@ -65,15 +65,19 @@ pub mod simd {
             self >= other
         }
 
-        /// Certain for numbers that differ. Of a NaN and a number both bodies below give the number when NaN stands
-        /// on the left, the only side the user's files have it on. Not known: which of two zeros stays. The standard
-        /// library leaves that open for `f32::max`; with `max-left` the left one stays, as a `>=` would have it.
+        /// Certain for numbers that differ. Not known: which of two zeros stays, and what a NaN gives that stands on
+        /// the left, the only side the user's files have it on. The standard library leaves the zeros open for
+        /// `f32::max`, which gives the other number for a NaN. With `max-left` the left zero stays, as a `>=` would
+        /// have it; with `max-nan` the NaN does, as in a max that passes NaNs on.
         #[inline(always)]
         fn simd_max(self, other: f32) -> f32 {
-            #[cfg(not(feature = "max-left"))]
-            return self.max(other);
-            #[cfg(feature = "max-left")]
-            return if self >= other { self } else { other };
+            if cfg!(feature = "max-nan") && self.is_nan() {
+                self
+            } else if cfg!(feature = "max-left") {
+                if self >= other { self } else { other }
+            } else {
+                self.max(other)
+            }
         }
 
         /// Document 01's rule: below the lower end, else above the upper end, else kept, NaN too. Likely: it is what
