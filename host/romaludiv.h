@@ -1,7 +1,7 @@
 /* The call of the static library libromaludiv.a, for programs in C and C++ (C99 is enough).
  *
- * What the function does is proved for every input: exactly what document 01, the exact rules, says. This file is not
- * proved. It says how the tables lie in memory, and what the caller owes, which nothing in the library can test. */
+ * What the function does is proved for every input: exactly what document 01, the exact rules, says. (In the proof there
+ * is one NaN. That a NaN which no done step writes keeps its payload is tested.) This file is not proved. It says how the tables lie in memory, and what the caller owes, which nothing in the library can test. */
 #ifndef ROMALUDIV_H
 #define ROMALUDIV_H
 
