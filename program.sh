@@ -44,8 +44,23 @@ barred() {
     find "$root"/target/{bin,log,obj,passed,rlib,stamp} ! -type l ! -writable -print -quit 2>/dev/null || true
 }
 
+# Says so where nothing can be built here, and what to do.
+able() { # NAME
+    local bar
+    bar=$(barred)
+    if [ -n "$bar" ]; then
+        echo "$1: the program is not known to be built from these sources, and you may not write ${bar%%$'\n'*}:" \
+            "have somebody who may write there call ./$1 once, or copy the repository to a folder of your own" >&2
+        return 1
+    fi
+    command -v rt >/dev/null && return
+    echo "$1: the program is not known to be built from these sources, and 'rt', which builds it, is not there" >&2
+    return 1
+}
+
 # Waits until nobody else builds here: another first call, or the gate. The lock is on the repository's folder, so that no file
-# is needed for it. rt inherits it: what an interrupted check leaves running still writes. Without flock we go on.
+# is needed for it. rt inherits it: what an interrupted check leaves running still writes. Where there is no flock, or none on
+# this kind of disk, we go on without.
 lock() { # WHO
     local status=0
     exec 9<"$root"
@@ -64,8 +79,10 @@ unlock() {
 # Has rt prove, build and run the program, and keeps what it passed; under the lock.
 check() { # NAME
     local before after
+    able "$1" || return
+    echo "$1: proving and building the program; the first time this takes some minutes" >&2
     before=$(sources)
-    if foreign "$1"; then rm -f "$root/target/stamp/$1"; fi
+    if foreign "$1"; then rm -f "$root/target/stamp/$1" || return; fi
     if ! (cd "$root" && rt check "$1") </dev/null >&2 || ! after=$(built "$1"); then
         echo "$1: rt did not pass the program: see above" >&2
         return 1
@@ -76,23 +93,10 @@ check() { # NAME
 
 # Proves and builds target/bin/NAME where rt has not passed it as it stands, and says so on standard error.
 build() { # NAME
-    local status=0 bar
+    local status=0
     if good "$1"; then return; fi
     lock "$1"
-    if ! good "$1"; then
-        bar=$(barred)
-        if ! command -v rt >/dev/null; then
-            echo "$1: the program is not built from these sources, and 'rt', which proves and builds it, is not there" >&2
-            status=1
-        elif [ -n "$bar" ]; then
-            echo "$1: the program is not built from these sources, and cannot be here, since you may not write ${bar%%$'\n'*}" >&2
-            echo "$1: have somebody who may call ./$1 once, or copy the repository to a folder of your own" >&2
-            status=1
-        else
-            echo "$1: proving and building the program; the first time this takes some minutes" >&2
-            check "$1" || status=1
-        fi
-    fi
+    if ! good "$1"; then check "$1" || status=1; fi
     unlock
     return "$status"
 }
