@@ -11,17 +11,30 @@ use text_program::answer_front;
 ghost use Prim.Native.Nat.{_≤_};
 ghost use lib.ListN.{length};
 
-fn read_input(input: &mut [u8]) -> usize {
-    io::read_full(STDIN_FILENO, input)
+// What was read: how many bytes, and whether the input was read to its end, or as far as it decides.
+struct Taken {
+    n: usize,
+    whole: bool,
 }
 
-// Whether the input was read to its end, or as far as it decides: one more read tells an end from a failure.
-fn read_whole(n: usize) -> bool {
-    if n == DECIDING {
-        return true;
+// A read of no bytes is the end, and none comes after it: at a terminal one more would wait for a second Ctrl-D.
+fn read_input(input: &mut [u8]) -> Taken {
+    let mut at = 0;
+    while at < input.len() {
+        let got = libc::read(STDIN_FILENO, &mut input[at..]);
+        if got < 0 {
+            return Taken {
+                n: at,
+                whole: false,
+            };
+        }
+        let more = io::count(got, &input[at..]);
+        if more == 0 {
+            break;
+        }
+        at += more;
     }
-    let mut next = [0; 1];
-    libc::read(STDIN_FILENO, &mut next) == 0
+    Taken { n: at, whole: true }
 }
 
 // The first k bytes.
@@ -34,15 +47,15 @@ fn write_out(out: &[u8], k: usize)
 }
 
 fn answer(input: &mut [u8; DECIDING], out: &mut [u8; LONGEST_OUTPUT]) {
-    let n = read_input(&mut *input);
-    if !read_whole(n) {
+    let taken = read_input(&mut *input);
+    if !taken.whole {
         io::write_all(
             STDERR_FILENO,
             b"sheet: the input could not be read to its end\n",
         );
         return;
     }
-    let k = answer_front(&*input, n, &mut *out);
+    let k = answer_front(&*input, taken.n, &mut *out);
     write_out(out, k);
 }
 
