@@ -101,13 +101,19 @@ build() { # NAME
     return "$status"
 }
 
+# The toolchain's folder, two above where rt says that its guide starts; none where rt names no absolute path.
+kit_folder() {
+    local guide
+    guide=$(rt doc </dev/null 2>/dev/null) || return
+    case $guide in /*/*/*) echo "${guide%/*/*}" ;; *) return 1 ;; esac
+}
+
 # Sets `command` to the words that run a built program. It is for x86-64: it runs with the toolchain's own C library, and
-# on another processor with its emulator. Where rt does not name an absolute path, without either.
+# on another processor with its emulator. Where that is not to be had, without either.
 words() { # PROGRAM
-    local guide kit=''
+    local kit
     command=()
-    guide=$(rt doc </dev/null 2>/dev/null) || guide=''
-    case $guide in /*/*/*) kit=${guide%/*/*}/on/$(uname -m)/toolchain ;; esac
+    if kit=$(kit_folder); then kit=$kit/on/$(uname -m)/toolchain; fi
     if [ -n "$kit" ] && [ -x "$kit/bin/qemu-x86_64" ]; then command=("$kit/bin/qemu-x86_64"); fi
     if [ -n "$kit" ] && [ -x "$kit/lib/ld-linux-x86-64.so.2" ]; then
         command+=("$kit/lib/ld-linux-x86-64.so.2" --library-path "$kit/lib")
