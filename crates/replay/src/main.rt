@@ -21,22 +21,22 @@ ghost use Rattle.replay_judge.specs.Replayed.{Ran};
 ghost use Rattle.replay.specs.ReadOnce.{ReadOnce};
 
 // How many bytes were handed to be written, and whether they were.
-pub struct Handed {
-    pub count: usize,
-    pub well: bool,
+struct Handed {
+    count: usize,
+    well: bool,
 }
 
 // After a portion: what is carried on, how many bytes were read and how many handed to be written, whether there may be
 // more to read, and whether all went well so far.
-pub struct Onward {
-    pub judge: Judge,
-    pub read: usize,
-    pub count: usize,
-    pub more: bool,
-    pub well: bool,
+struct Onward {
+    judge: Judge,
+    read: usize,
+    count: usize,
+    more: bool,
+    well: bool,
 }
 
-// Hands the first k bytes to be written.
+// Hands the first k bytes to be written, and answers how many that were.
 fn write_out(told: &[u8], k: usize) -> Handed
     requires { ⌜ k ≤ length (now told) ⌝ }
     ensures { λ r. ⌜ r .count ≡ k ⌝ }
