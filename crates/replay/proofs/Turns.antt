@@ -25,11 +25,7 @@ all-handed f e = rw e f
 -- the read failed
 pub read-failed : (j : Judge) (portion input out told : List ℕ)
     → ReadOnce j input out told (record { judge = j; read = 0; count = 0; more = false; well = false }) portion input out told
-read-failed j portion input out told = record { call = nothing-read j input out told; short = omega arith; last = λ p q. refl }
-
--- where all went well and there is no more, nothing was read
-no-more : (well : Bool) (n : ℕ) → well ≡ true → well && ltb 0 n ≡ false → n ≡ 0
-no-more well n p q = omega (arith, ltb-false 0 n (sym (ap (λ (b : Bool). b && ltb 0 n) p) ∙ q))
+read-failed j portion input out told = record { call = nothing-read j input out told; short = omega arith; on = refl }
 
 -- n bytes were read and judged, and what they told was handed to be written
 pub read-well : {j : Judge} {input out told : List ℕ} {t : Turned} {input′ out′ told′ : List ℕ} {count : ℕ} (portion : List ℕ) (n : ℕ) (well : Bool)
@@ -38,7 +34,7 @@ pub read-well : {j : Judge} {input out told : List ℕ} {t : Turned} {input′ o
 read-well portion n well call e long = record {
   call = rw e call;
   short = omega (arith, length-take n portion, long);
-  last = no-more well n;
+  on = refl;
 }
 
 -- a turn of the loop
@@ -47,16 +43,20 @@ pub turn-on : {input₀ out₀ : List ℕ} {turns : ℕ} {j : Judge} {input out 
     → Running input₀ out₀ (turns - 1) (r .judge) input′ out′
 turn-on so-far once some = run-on so-far (once .call) (once .short) some
 
-is-over : (more : Bool) → not more ≡ true → more ≡ false
-is-over true h = sym h
-is-over false h = refl
+-- where all went well and there is no more, nothing was read
+nothing-more : (well more : Bool) (n : ℕ) → more ≡ well && ltb 0 n → well ≡ true → not more ≡ true → n ≡ 0
+nothing-more well more n e p h = omega (arith, ltb-false 0 n (sym (e ∙ ap (λ (b : Bool). b && ltb 0 n) p) ∙ over more h))
+  where
+    over : (more : Bool) → not more ≡ true → more ≡ false
+    over true h = sym h
+    over false h = refl
 
 -- the last turn, and the end
 pub turned-last : {input₀ out₀ : List ℕ} {turns : ℕ} {j : Judge} {input out told : List ℕ} {r : Onward} {portion input′ out′ told′ told″ : List ℕ} {n : ℕ}
     → Running input₀ out₀ turns j input out → ReadOnce j input out told r portion input′ out′ told′
     → Finishes (r .judge) input′ out′ told′ told″ n → not (r .more) ≡ true → r .well ≡ true → Ran input₀ out₀
 turned-last {r = r} {portion} so-far once end over well =
-    run-ends so-far (once .call) (ap (λ (n : ℕ). take n portion) (once .last well (is-over (r .more) over))) end
+    run-ends so-far (once .call) (ap (λ (n : ℕ). take n portion) (nothing-more (r .well) (r .more) (r .read) (once .on) well over)) end
 
 -- no promise where the run did not come to the end
 pub no-run : {input₀ out₀ : List ℕ} → false ≡ true → Ran input₀ out₀
