@@ -12,39 +12,63 @@ use replay_judge::Judge;
 use replay_judge::begin;
 use replay_judge::judge_end;
 use replay_judge::judge_read;
+ghost use mathlib.Core.Path.{_≡_};
+ghost use mathlib.Core.Bool.{true};
 ghost use Prim.Native.Nat.{_≤_};
 ghost use lib.ListN.{length};
+ghost use Rattle.replay_judge.specs.Stands.{Finishes};
+ghost use Rattle.replay_judge.specs.Replayed.{Ran};
+ghost use Rattle.replay.specs.ReadOnce.{ReadOnce};
 
-// After a portion: what is carried on, whether there may be more to read, and whether all went well so far.
+// How many bytes were handed to be written, and whether they were.
+struct Handed {
+    count: usize,
+    well: bool,
+}
+
+// After a portion: what is carried on, how many bytes were read and how many handed to be written, whether there may be
+// more to read, and whether all went well so far.
 struct Onward {
     judge: Judge,
+    read: usize,
+    count: usize,
     more: bool,
     well: bool,
 }
 
-// The first k bytes; whether they were written.
-fn write_out(told: &[u8], k: usize) -> bool
+// Hands the first k bytes to be written, and answers how many that were.
+fn write_out(told: &[u8], k: usize) -> Handed
     requires { ⌜ k ≤ length (now told) ⌝ }
+    ensures { λ r. ⌜ r .count ≡ k ⌝ }
 {
     if io::write_all(STDOUT_FILENO, &told[..k]) {
-        return true;
+        return Handed {
+            count: k,
+            well: true,
+        };
     }
     io::write_all(
         STDERR_FILENO,
         b"replay: a day's line could not be written\n",
     );
-    false
+    Handed {
+        count: k,
+        well: false,
+    }
 }
 
-// Reads once, and tells of the days that end there.
+// Reads once, and tells of the days that end there. Where the read fails, it is as if no byte was read.
 fn replay_some(
     j: Judge,
+    portion: &mut [u8; PORTION],
     input: &mut [u8; HELD],
     out: &mut [u8; LONGEST_OUTPUT],
     told: &mut [u8; TOLD],
-) -> Onward {
-    let mut portion = [0u8; PORTION];
-    let got = libc::read(STDIN_FILENO, &mut portion);
+) -> Onward
+    ensures { λ r. ⌜ ReadOnce j (now (input .entry)) (now (out .entry)) (now (told .entry)) r
+        (now (portion .exit)) (now (input .exit)) (now (out .exit)) (now (told .exit)) ⌝ }
+{
+    let got = libc::read(STDIN_FILENO, &mut *portion);
     if got < 0 {
         io::write_all(
             STDERR_FILENO,
@@ -52,19 +76,25 @@ fn replay_some(
         );
         return Onward {
             judge: j,
+            read: 0,
+            count: 0,
             more: false,
             well: false,
         };
     }
-    let n = io::count(got, &portion);
-    let t = judge_read(j, &portion, n, input, out, &mut *told);
+    let n = io::count(got, &*portion);
+    let t = judge_read(j, &*portion, n, input, out, &mut *told);
     let judge = t.judge;
     let at = t.at;
-    let written = write_out(&*told, at);
+    let handed = write_out(&*told, at);
+    let count = handed.count;
+    let well = handed.well;
     Onward {
         judge: judge,
-        more: written & (0 < n),
-        well: written,
+        read: n,
+        count: count,
+        more: well & (0 < n),
+        well: well,
     }
 }
 
@@ -74,33 +104,46 @@ fn replay_end(
     input: &mut [u8; HELD],
     out: &mut [u8; LONGEST_OUTPUT],
     told: &mut [u8; TOLD],
-) {
+) -> Handed
+    ensures { λ r. ⌜ Finishes j (now (input .entry)) (now (out .entry)) (now (told .entry)) (now (told .exit)) (r .count) ⌝ }
+{
     let k = judge_end(j, input, out, &mut *told);
-    write_out(&*told, k);
+    write_out(&*told, k)
 }
 
-// A proved loop has to end, and nothing says that a file does: so the loop counts down from a number that no run uses
-// up. With 2^53 portions of 1,024 bytes a day's number stays below 2^63.
-fn replay(input: &mut [u8; HELD], out: &mut [u8; LONGEST_OUTPUT], told: &mut [u8; TOLD]) {
+// Whether the file was read to its end, and all of its lines written. A proved loop has to end, and nothing says that a
+// file does: so the loop counts down from a number that no run uses up. With 2^53 portions of 1,024 bytes a day's number
+// stays below 2^63.
+fn replay(
+    portion: &mut [u8; PORTION],
+    input: &mut [u8; HELD],
+    out: &mut [u8; LONGEST_OUTPUT],
+    told: &mut [u8; TOLD],
+) -> bool
+    ensures { λ r. ⌜ (r ≡ true → Ran (now (input .entry)) (now (out .entry))) ⌝ }
+{
     let mut j = begin();
     let mut turns: u64 = 9007199254740992;
     while 0 < turns {
-        let on = replay_some(j, &mut *input, &mut *out, &mut *told);
+        let on = replay_some(j, &mut *portion, &mut *input, &mut *out, &mut *told);
         j = on.judge;
         if !on.more {
             if on.well {
-                replay_end(j, input, out, told);
+                let handed = replay_end(j, input, out, told);
+                return handed.well;
             }
-            return;
+            return false;
         }
         turns -= 1;
     }
     io::write_all(STDERR_FILENO, b"replay: the file is too long\n");
+    false
 }
 
 fn main() {
+    let mut portion = [0; PORTION];
     let mut input = [0; HELD];
     let mut out = [0; LONGEST_OUTPUT];
     let mut told = [0; TOLD];
-    replay(&mut input, &mut out, &mut told);
+    replay(&mut portion, &mut input, &mut out, &mut told);
 }

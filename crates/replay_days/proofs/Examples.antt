@@ -24,7 +24,8 @@ use Rattle.replay_days.specs.Judged.{
   same,
   verdict,
 }
-use Rattle.replay_days.specs.Examples.{Examples, itsOutput}
+use Rattle.replay_days.specs.Nights.{r-2, sampleOutput}
+use Rattle.replay_days.specs.Examples.{Examples, OfNights, itsOutput, otherLoad, x}
 
 -- the line A is bad, with reason 2
 read : textOf ofProgram (65 ∷ 10 ∷ []) ≡ refused 1 2
@@ -42,9 +43,6 @@ said day recorded o = verdict day (firstDiffering 1 (linesOf o) recorded)
 known : (day : ℕ) (recorded : List (List ℕ)) → said day recorded (output (65 ∷ 10 ∷ [])) ≡ said day recorded itsOutput
 known day recorded = ap (said day recorded) its-output
 
-abbrev x : List ℕ
-x = 88 ∷ 9 ∷ 49 ∷ 9 ∷ 50 ∷ []
-
 pub examples : Examples
 unfolding judged judgedFrom linesOf linesFrom onlyD onlyZ same compared firstDiffering verdict noD dayLine decField decBytes decDigits glyph
 examples = record {
@@ -56,4 +54,16 @@ examples = record {
   surplus = ap₂ _++_ (known 1 (x ∷ x ∷ [])) refl;
   second = ap₂ _++_ (known 1 (x ∷ [])) (known 2 (x ∷ []));
   no-d = ap₂ _++_ (known 1 (x ∷ [])) refl;
+  line-unended = known 1 (x ∷ []);
+  line-cut = known 1 ((88 ∷ 9 ∷ 49 ∷ []) ∷ []);
+  d-unended = known 1 [];
+}
+
+pub of-nights : OfNights
+unfolding judged judgedFrom linesOf linesFrom onlyD onlyZ same compared firstDiffering verdict noD dayLine decField decBytes decDigits glyph
+of-nights w = record {
+  r-same = ap₂ _++_ (ap (said 1 (linesOf r-2)) (w .refused)) refl;
+  r-differs = ap₂ _++_ (ap (said 1 ((82 ∷ 9 ∷ 51 ∷ []) ∷ [])) (w .refused)) refl;
+  sample-same = ap₂ _++_ (ap (said 1 (linesOf sampleOutput)) (w .sample)) refl;
+  sample-differs = ap₂ _++_ (ap (said 1 (linesOf otherLoad)) (w .sample)) refl;
 }

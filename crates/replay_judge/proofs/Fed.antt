@@ -3,8 +3,8 @@ use Prim.Native.Nat.{ℕ, _+_, _≤_, _<_}
 use native.Mathlib.Numerals.{add-one}
 use native.Mathlib.Omega.{arith}
 use borrow.Author.Tests.{eq-eqb, ne-eqb}
-use mathlib.Core.List.{List}
-use mathlib.Core.Path.{_≡_}
+use mathlib.Core.List.{List, []}
+use mathlib.Core.Path.{_≡_, refl}
 use lib.ListN.{getD, length, length-take, take}
 use lib.Seq.{take-all, take-suc}
 use Rattle.base_places.specs.Lengths.{portionBytes, toldBytes}
@@ -84,3 +84,8 @@ whole-told {j} {input} {out} {told} bytes n p e long room =
     let short : length (take n bytes) ≤ portionBytes = omega (arith, length-take n bytes) in
     let q : Portion j input out told (take n bytes) _ _ _ _ = rw e at p in
     record { turns = q; whole = λ g st few. exact (q .tells .wrote g st few) (omega (arith, tells-short g (take n bytes))) .1 }
+
+-- no byte was read: nothing is told, and all is as it was
+pub nothing-read : (j : Judge) (input out told : List ℕ) → Read j input out told [] (record { judge = j; at = 0 }) input out told
+unfolding feeds tells
+nothing-read j input out told = record { turns = none-fed j input out told []; whole = λ g st few. refl }

@@ -7,3 +7,4 @@ pub mod GoingOn
 pub mod Fed
 pub mod Finished
 pub mod Replayed
+pub mod Running

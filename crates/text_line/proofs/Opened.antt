@@ -22,13 +22,13 @@ module _ (st : State) (line bodies numbers floats steps : List ℕ) (l : Letter)
   -- 2
   pub no-letter : u ≡ true → ReadLine st line bodies numbers floats steps (Bad 2) bodies numbers floats steps
   unfolding readLine readLetter cameOf
-  no-letter h = record { is = rw (← letter, ← e, h) refl; sane = 0; kept = refl }
+  no-letter h = record { is = rw (← letter, ← e, h) refl; sane = tt; kept = refl }
 
   -- 3
   module _ (known : u ≡ false) {next : Next} (leads : next ≡ nextPlace l (st .place)) where
     pub no-order : next ≡ OutOfOrder → ReadLine st line bodies numbers floats steps (Bad 3) bodies numbers floats steps
     unfolding readLine readLetter ordered cameOf nightOf
-    no-order h = record { is = rw (← letter, ← e, known, ← leads, h) refl; sane = 0; kept = refl }
+    no-order h = record { is = rw (← letter, ← e, known, ← leads, h) refl; sane = tt; kept = refl }
 
     pub in-order : (place : Place) → next ≡ To place → {r : LineRead} {bodies′ numbers′ floats′ steps′ : List ℕ}
         → ReadOrdered l place st line bodies numbers floats steps r bodies′ numbers′ floats′ steps′
@@ -40,13 +40,13 @@ module _ (l : Letter) (place : Place) (st : State) (line bodies numbers floats s
   -- 4
   pub no-form : not (row .good) ≡ true → ReadOrdered l place st line bodies numbers floats steps (Bad 4) bodies numbers floats steps
   unfolding cameOf filled rowSays
-  no-form h = record { is = rw (← told .is, not-so (row .good) h) refl; sane = 0; kept = refl }
+  no-form h = record { is = rw (← told .is, not-so (row .good) h) refl; sane = tt; kept = refl }
 
   -- 5
   module _ (formed : not (row .good) ≡ false) {x : Bool} (filling : Full l st bodies numbers floats steps x) where
     pub no-room : x ≡ true → ReadOrdered l place st line bodies numbers floats steps (Bad 5) bodies numbers floats steps
     unfolding cameOf filled rowSays
-    no-room h = record { is = rw (← told .is, so (row .good) formed, ← filling .is, h) refl; sane = 0; kept = refl }
+    no-room h = record { is = rw (← told .is, so (row .good) formed, ← filling .is, h) refl; sane = tt; kept = refl }
 
     pub stored : x ≡ false → (st′ : State) (bodies′ numbers′ floats′ steps′ : List ℕ)
         → Put l place st (row .numbers) (row .bits) bodies numbers floats steps st′ bodies′ numbers′ floats′ steps′

@@ -48,7 +48,7 @@ pub record Sane (st : State) (bodies numbers floats steps : List ℕ) : Type 0 w
 
 abbrev pub SaneLine : LineRead → List ℕ → List ℕ → List ℕ → List ℕ → Type 0
 SaneLine (Good st) bodies numbers floats steps = Sane st bodies numbers floats steps
-SaneLine (Bad reason) bodies numbers floats steps = ℕ
+SaneLine (Bad reason) bodies numbers floats steps = Unit
 
 -- the first k of a row were put to the end of a table that was filled as far as `at`, and is now as far as r
 pub record Appended (t : List ℕ) (at : ℕ) (row : List ℕ) (k : ℕ) (t′ : List ℕ) (r : ℕ) : Type 0 where

@@ -41,7 +41,7 @@ module _ (st : State) (number : ℕ) (bodies numbers floats steps : List ℕ) wh
 
   sane-by : (cut : Bool) → Sane st bodies numbers floats steps
       → SaneEnd (if cut then BadEnd number 3 else Whole st number) bodies numbers floats steps
-  sane-by true h = number
+  sane-by true h = tt
   sane-by false h = h
 
   sane-whole : Sane st bodies numbers floats steps → SaneEnd (wholeEnd st number) bodies numbers floats steps
@@ -85,7 +85,7 @@ module _ (k : Cursor) (x bodies numbers floats steps : List ℕ) (v : Fine k x (
         → ReadWhole (closed (roomOf bodies numbers floats steps) (textAt k x (length x) bodies numbers floats steps))
         (BadEnd (k .number) reason) bodies′ numbers′ floats′ steps′
     unfolding textAt endText
-    last-bad reason q = record { is = rw (closed-line _ _ _ _ some, bad-line (k .number) d reason q, whole-refused); sane = 0 }
+    last-bad reason q = record { is = rw (closed-line _ _ _ _ some, bad-line (k .number) d reason q, whole-refused); sane = tt }
 
   pub no-last : length x ≤ k .start → (e : End) → e ≡ wholeEnd (k .st) (k .number)
       → ReadWhole (closed (roomOf bodies numbers floats steps) (textAt k x (length x) bodies numbers floats steps)) e
@@ -119,7 +119,7 @@ module _ (bodies₀ numbers₀ floats₀ steps₀ bodies numbers floats steps : 
       rw (same-room bodies numbers floats steps bodies₀ numbers₀ floats₀ steps₀ p q u w) at (rw e at (d .is)) in
       let all : feeds room (reading [] 1 blank) x ≡ refused number reason =
       rw (← take-append-drop i x, feeds-append, ← z) (feeds-refused room number reason (drop i x)) in
-      record { is = rw (all, closed-refused); sane = 0 }
+      record { is = rw (all, closed-refused); sane = tt }
 
   -- all bytes were fed
   pub over : {k : Cursor} {r : End} {bodies′ numbers′ floats′ steps′ : List ℕ} → Fine k x i bodies numbers floats steps

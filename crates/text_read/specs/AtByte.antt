@@ -50,7 +50,7 @@ pub record Feeds (room : Counts) (r : Fed) (x : List ℕ) (i : ℕ) (bodies numb
 
 abbrev pub SaneEnd : End → List ℕ → List ℕ → List ℕ → List ℕ → Type 0
 SaneEnd (Whole st number) bodies numbers floats steps = Sane st bodies numbers floats steps
-SaneEnd (Bad number reason) bodies numbers floats steps = ℕ
+SaneEnd (Bad number reason) bodies numbers floats steps = Unit
 
 -- the text was read to its end, and came to x
 pub record ReadWhole (x : Text) (r : End) (bodies numbers floats steps : List ℕ) : Type 0 where

@@ -1,20 +1,22 @@
--- `replay::replay` meets its contract. The measure is the number of turns that are left; nothing has to hold from turn to turn. Assumes nothing.
+-- `replay::replay` meets its contract. From turn to turn: the calls so far. The measure is the number of turns that are left. Assumes nothing.
 use native.Mathlib.Omega.{arith}
 use borrow.Author.Needs.{needs}
+use Rattle.replay_judge.proofs.Running.{Running, run-begins}
+use Rattle.replay.proofs.Turns.{no-run, turn-on, turned-last}
 use Rattle.replay.proofs.replay.Statement.{statement}
 use Rattle.replay.proofs.replay.Tie as tie
 
 abbrev Inv-loop : tie.InvT-loop
-Inv-loop input₀ out₀ told₀ j₀ turns₀ t7 input out told j turns = Unit {0}
+Inv-loop portion₀ input₀ out₀ told₀ j₀ turns₀ t9 portion input out told j turns = Running input₀ out₀ turns j input out
 
 abbrev μ-loop : tie.MeasureT-loop
-μ-loop input₀ out₀ told₀ j₀ turns₀ t7 input out told j turns = turns
+μ-loop portion₀ input₀ out₀ told₀ j₀ turns₀ t9 portion input out told j turns = turns
 
 begin-requires : tie.Need-begin-requires Inv-loop μ-loop
 begin-requires c κs = search needs
 
 loop-holds : tie.Need-loop-holds Inv-loop μ-loop
-loop-holds c = tt
+loop-holds c = search run-begins
 
 replay-some-requires : tie.Need-replay-some-requires Inv-loop μ-loop
 replay-some-requires c κs = search needs
@@ -23,10 +25,10 @@ replay-end-requires : tie.Need-replay-end-requires Inv-loop μ-loop
 replay-end-requires c κs = search needs
 
 returns : tie.Need-returns Inv-loop μ-loop
-returns c = tt
+returns c = λ all. search turned-last
 
 returns-2 : tie.Need-returns-2 Inv-loop μ-loop
-returns-2 c = tt
+returns-2 c = no-run
 
 sub-turns : tie.Need-sub-turns Inv-loop μ-loop
 sub-turns c = omega arith
@@ -35,7 +37,7 @@ loop-less : tie.Need-loop-less Inv-loop μ-loop
 loop-less c = omega arith
 
 loop-again : tie.Need-loop-again Inv-loop μ-loop
-loop-again c = tt
+loop-again c = search turn-on
 
 slice-aggregate-write-all : tie.Need-slice-aggregate-write-all Inv-loop μ-loop
 slice-aggregate-write-all c = search needs
@@ -44,7 +46,7 @@ write-all-requires : tie.Need-write-all-requires Inv-loop μ-loop
 write-all-requires c κs = search needs
 
 returns-3 : tie.Need-returns-3 Inv-loop μ-loop
-returns-3 c = tt
+returns-3 c = no-run
 
 pub replay-spec : {M : Type 1} → statement M
 replay-spec =
