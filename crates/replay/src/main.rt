@@ -13,11 +13,9 @@ use replay_judge::begin;
 use replay_judge::judge_end;
 use replay_judge::judge_read;
 ghost use mathlib.Core.Path.{_≡_};
-ghost use mathlib.Core.Bool.{true};
 ghost use Prim.Native.Nat.{_≤_};
 ghost use lib.ListN.{length};
 ghost use Rattle.replay_judge.specs.Stands.{Finishes};
-ghost use Rattle.replay_judge.specs.Replayed.{Ran};
 ghost use Rattle.replay.specs.ReadOnce.{ReadOnce};
 
 // How many bytes were handed to be written, and whether they were.
@@ -111,39 +109,26 @@ fn replay_end(
     write_out(&*told, k)
 }
 
-// Whether the file was read to its end, and all of its lines written. A proved loop has to end, and nothing says that a
-// file does: so the loop counts down from a number that no run uses up. With 2^53 portions of 1,024 bytes a day's number
-// stays below 2^63.
-fn replay(
-    portion: &mut [u8; PORTION],
-    input: &mut [u8; HELD],
-    out: &mut [u8; LONGEST_OUTPUT],
-    told: &mut [u8; TOLD],
-) -> bool
-    ensures { λ r. ⌜ (r ≡ true → Ran (now (input .entry)) (now (out .entry))) ⌝ }
-{
-    let mut j = begin();
-    let mut turns: u64 = 9007199254740992;
-    while 0 < turns {
-        let on = replay_some(j, &mut *portion, &mut *input, &mut *out, &mut *told);
-        j = on.judge;
-        if !on.more {
-            if on.well {
-                let handed = replay_end(j, input, out, told);
-                return handed.well;
-            }
-            return false;
-        }
-        turns -= 1;
-    }
-    io::write_all(STDERR_FILENO, b"replay: the file is too long\n");
-    false
-}
-
+// Portion after portion, each turn with what the one before left; then the end. A proved loop has to end, and nothing
+// says that a file does: so the loop counts down from a number that no run uses up. With 2^53 portions of 1,024 bytes a
+// day's number stays below 2^63.
 fn main() {
     let mut portion = [0; PORTION];
     let mut input = [0; HELD];
     let mut out = [0; LONGEST_OUTPUT];
     let mut told = [0; TOLD];
-    replay(&mut portion, &mut input, &mut out, &mut told);
+    let mut j = begin();
+    let mut turns: u64 = 9007199254740992;
+    while 0 < turns {
+        let on = replay_some(j, &mut portion, &mut input, &mut out, &mut told);
+        j = on.judge;
+        if !on.more {
+            if on.well {
+                replay_end(j, &mut input, &mut out, &mut told);
+            }
+            return;
+        }
+        turns -= 1;
+    }
+    io::write_all(STDERR_FILENO, b"replay: the file is too long\n");
 }

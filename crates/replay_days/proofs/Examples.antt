@@ -10,6 +10,8 @@ use Rattle.text_line.specs.Night.{ofProgram}
 use Rattle.text_read.specs.Text.{closed, feed, feeds, lineEnded, refused, textOf}
 use Rattle.text_write.specs.Lines.{joined, line}
 use Rattle.text_output.specs.Output.{output, outputOf}
+use Rattle.text_output.specs.Examples.{r-2, sampleOutput}
+use Rattle.text_output.proofs.Examples as written
 use Rattle.replay_days.specs.Judged.{
   compared,
   dayLine,
@@ -24,8 +26,7 @@ use Rattle.replay_days.specs.Judged.{
   same,
   verdict,
 }
-use Rattle.replay_days.specs.Nights.{r-2, sampleOutput}
-use Rattle.replay_days.specs.Examples.{Examples, OfNights, itsOutput, otherLoad, x}
+use Rattle.replay_days.specs.Examples.{Examples, NightExamples, itsOutput, otherLoad, x}
 
 -- the line A is bad, with reason 2
 read : textOf ofProgram (65 ∷ 10 ∷ []) ≡ refused 1 2
@@ -59,11 +60,11 @@ examples = record {
   d-unended = known 1 [];
 }
 
-pub of-nights : OfNights
+pub of-nights : NightExamples
 unfolding judged judgedFrom linesOf linesFrom onlyD onlyZ same compared firstDiffering verdict noD dayLine decField decBytes decDigits glyph
-of-nights w = record {
-  r-same = ap₂ _++_ (ap (said 1 (linesOf r-2)) (w .refused)) refl;
-  r-differs = ap₂ _++_ (ap (said 1 ((82 ∷ 9 ∷ 51 ∷ []) ∷ [])) (w .refused)) refl;
-  sample-same = ap₂ _++_ (ap (said 1 (linesOf sampleOutput)) (w .sample)) refl;
-  sample-differs = ap₂ _++_ (ap (said 1 (linesOf otherLoad)) (w .sample)) refl;
+of-nights = record {
+  r-same = ap₂ _++_ (ap (said 1 (linesOf r-2)) (written.examples .refused)) refl;
+  r-differs = ap₂ _++_ (ap (said 1 ((82 ∷ 9 ∷ 51 ∷ []) ∷ [])) (written.examples .refused)) refl;
+  sample-same = ap₂ _++_ (ap (said 1 (linesOf sampleOutput)) (written.examples .sample)) refl;
+  sample-differs = ap₂ _++_ (ap (said 1 (linesOf otherLoad)) (written.examples .sample)) refl;
 }

@@ -4,9 +4,8 @@ use Prim.Native.Nat.{ℕ}
 use mathlib.Core.List.{List, [], _∷_, _++_}
 use mathlib.Core.Path.{_≡_}
 use lib.ListN.{drop, take}
-use Rattle.text_output.specs.Output.{output}
+use Rattle.text_output.specs.Examples.{r-2, sampleNight, sampleOutput, stepAlone}
 use Rattle.replay_days.specs.Judged.{judged}
-use Rattle.replay_days.specs.Nights.{r-2, sampleNight, sampleOutput, stepAlone}
 
 -- a night, and the D after it
 abbrev pub night : List ℕ
@@ -57,22 +56,14 @@ pub record Examples : Type 0 where
   pub line-cut : judged (night ++ (88 ∷ 9 ∷ 49 ∷ [])) ≡ day-differs 49 49
   pub d-unended : judged (65 ∷ 10 ∷ 68 ∷ []) ≡ day-differs 49 49
 
--- what the text program writes of the nights of specs/Nights.antt: a premise here, since the call is worked out below this crate
-pub record Written : Type 0 where
-  pub sample : output sampleNight ≡ sampleOutput
-  pub refused : output stepAlone ≡ r-2
-
 -- the document's output, with 3 for 4 as the first digit of the load on its I line
 abbrev pub otherLoad : List ℕ
 otherLoad = take 41 sampleOutput ++ (51 ∷ []) ++ drop 42 sampleOutput
 
--- nights whose output is no X; "a day whose input gives X or R is compared in the same way"
+-- nights whose output is no X, worked out below this crate (`Examples` in text_output); "a day whose input gives X or R is compared in the same way"
 pub record NightExamples : Type 0 where
   pub r-same : judged (stepAlone ++ d ++ r-2 ++ z) ≡ day-same 49
   pub r-differs : judged (stepAlone ++ d ++ (82 ∷ 9 ∷ 51 ∷ 10 ∷ []) ++ z) ≡ day-differs 49 49
   -- A, B, I and E lines; the I line is the third
   pub sample-same : judged (sampleNight ++ d ++ sampleOutput ++ z) ≡ day-same 49
   pub sample-differs : judged (sampleNight ++ d ++ otherLoad ++ z) ≡ day-differs 49 51
-
-abbrev pub OfNights : Type 0
-OfNights = Written → NightExamples

@@ -7,4 +7,3 @@ pub mod GoingOn
 pub mod Fed
 pub mod Finished
 pub mod Replayed
-pub mod Running

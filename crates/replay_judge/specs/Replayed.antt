@@ -1,6 +1,6 @@
 -- What a program adds that reads a file in portions: it calls `begin`, `judge_read` on each portion, `judge_end`, each call with what the one
--- before left, and writes what each call tells. Then what it writes is `judged` of the file, however that was cut (`Replayed`, proved in
--- proofs/Replayed.antt), and what a program promises of a whole run that makes these calls (`Ran`). Assumes nothing.
+-- before left, and writes what each call tells. Then what it writes is `judged` of the file, however that was cut. Proved in
+-- proofs/Replayed.antt. Assumes nothing.
 use Prim.Native.Nat.{ℕ, _+_, _≤_}
 use mathlib.Core.List.{List, [], _∷_, _++_}
 use mathlib.Core.Path.{_≡_}
@@ -40,13 +40,3 @@ abbrev pub Replayed : Type 0
 Replayed =
     (portions : List (List ℕ)) (j : Judge) (input out written : List ℕ) → Begins j → length (whole portions) + 2 ≤ largest
     → Calls portions j input out written → written ≡ judged (whole portions)
-
--- a run to the end of a file: from its beginning the portions were judged, then nothing, which is how the end shows, and then the end; `handed` is
--- what the calls told, one after the other, and it is what is to be written of the portions
-pub record Ran (input out : List ℕ) : Type 0 where
-  pub first : Judge
-  pub begins : Begins first
-  pub portions : List (List ℕ)
-  pub handed : List ℕ
-  pub calls : Calls (portions ++ ([] ∷ [])) first input out handed
-  pub is : handed ≡ judged (whole portions)

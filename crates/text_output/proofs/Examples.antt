@@ -18,7 +18,7 @@ use Rattle.list_tables.specs.Tables.{contactAt, contactOf, headOf, normalOf, po
 use Rattle.list_cells.specs.Cells.{answerRow, putAnswer, putCells, putContact, putIf, putImpulses, putPoint, putVel, velRow}
 use Rattle.list_rules.specs.Sweep.{answered, firstSteps, ifThere, itsContact, laid, newBodies, newFloats, outcome, stepOn, sweep, velsAt}
 use Rattle.list_checks.specs.Checks.{faulty, someFaulty, someUneven, tooMany, wholeCall, wrongSizes}
-use Rattle.call_rules.specs.Call.{allDone, oneByOne}
+use Rattle.call_rules.specs.Call.{allDone, nothingDone, oneByOne}
 use Rattle.text_digits.specs.Bits.{printed}
 use Rattle.text_digits.specs.Digits.{decBytes, decDigits, decField, decOf, digitOf, glyph, hexBytes, hexDigits, hexField, hexOf, numberFrom}
 use Rattle.text_fields.specs.Fields.{ended, fields, onto, onward, takes, thenBits, values}
@@ -31,7 +31,7 @@ use Rattle.text_write.specs.Lines.{each, joined, line}
 use Rattle.text_rows.specs.Tables.{aLine, bLine, iLine, listing, pointLine, pointsOf}
 use Rattle.text_output.specs.Answer.{answer, called, floatsOf, lent, lines, prints, written, zeros}
 use Rattle.text_output.specs.Output.{output, outputOf}
-use Rattle.text_output.specs.Examples.{Examples, e-0-0, sampleNight, sampleOutput}
+use Rattle.text_output.specs.Examples.{Examples, e-0-0, r-2, sampleNight, sampleOutput, stepAlone}
 
 -- what the document's night says
 abbrev night : Night
@@ -48,21 +48,29 @@ night = record {
   steps = 0 ∷ 1 ∷ [];
 }
 
-read : (textOf ofProgram sampleNight ≡ reading [] 8 night) × (textOf ofProgram [] ≡ reading [] 1 blank)
+-- and a step alone
+abbrev alone : Night
+alone = record { place = Steps; bodies = []; numbers = []; floats = []; steps = 0 ∷ 0 ∷ [] }
+
+read : (textOf ofProgram sampleNight ≡ reading [] 8 night) × (textOf ofProgram [] ≡ reading [] 1 blank) × (textOf ofProgram stepAlone ≡ reading [] 2 alone)
 unfolding textOf closed feeds feed lineEnded wholeContacts blank ofProgram readLine readLetter ordered filled full lacks put lineLetter letterIn letterOf fields onto
     says afterLetter values thenBits takes onward ended decOf hexOf numberFrom digitOf
-read = (refl, refl)
+read = (refl, refl, refl)
 
-told : (answer night ≡ sampleOutput) × (answer blank ≡ e-0-0)
-unfolding blank answer written called lent floatsOf zeros oneByOne allDone wholeCall wrongSizes tooMany someUneven someFaulty faulty first any sweep firstSteps finish answers count laid stepAt stepOf
+told : (answer night ≡ sampleOutput) × (answer blank ≡ e-0-0) × (answer alone ≡ r-2)
+unfolding blank answer written called lent floatsOf zeros oneByOne allDone nothingDone wholeCall wrongSizes tooMany someUneven someFaulty faulty first any sweep firstSteps finish answers count laid stepAt stepOf
     stepOn answered outcome itsContact newBodies newFloats ifThere velsAt contactAt readRow contactOf headOf pointOf normalOf
     tangentOf part velAt velOf step tried conditions asked checks holdsOf firstOr asRead reads asWritten writtenVels writes kindAbove wrongBodies wrongCount pairOfOne notFinite notFiniteVels
     finiteHead finiteNormal finiteTangent finitePoint finiteVel belowCount outOfRange headOut pointOut floorMoves unwritable lostImpulse finite
     routine pointsFor stores kindOf kinds overPoints turn atPoint normalAt normalLeft normal normalMoved normalImpulse normalWith
     dvel dot max0 push moved rest putVel putImpulses putContact putPoint putCells putIf putAnswer answerRow onRow onPart velRow ofBits toBits isNan neg add sub mul lt le ne
     lines listing each aLine bLine iLine pointLine pointsOf prints printed line joined decField decBytes decDigits hexField hexBytes hexDigits glyph
-told = (refl, refl)
+told = (refl, refl, refl)
 
 pub examples : Examples
 unfolding output outputOf
-examples = record { sample = ap outputOf (read .0) ∙ told .0; empty = ap outputOf (read .1) ∙ told .1 }
+examples = record {
+  sample = ap outputOf (read .0) ∙ told .0;
+  empty = ap outputOf (read .1) ∙ told .1;
+  refused = ap outputOf (read .2) ∙ told .2;
+}

@@ -47,7 +47,16 @@ sampleOutput =
 abbrev pub e-0-0 : List ℕ
 e-0-0 = 69 ∷ 9 ∷ 48 ∷ 9 ∷ 48 ∷ 10 ∷ []
 
+-- S 0 0, a step that names a contact which is not there; R 2
+abbrev pub stepAlone : List ℕ
+stepAlone = 83 ∷ 9 ∷ 48 ∷ 9 ∷ 48 ∷ 10 ∷ []
+
+abbrev pub r-2 : List ℕ
+r-2 = 82 ∷ 9 ∷ 50 ∷ 10 ∷ []
+
 pub record Examples : Type 0 where
   pub sample : output sampleNight ≡ sampleOutput
   -- "An empty input writes E with two zeros."
   pub empty : output [] ≡ e-0-0
+  -- "A whole-call refusal writes only R and its number."
+  pub refused : output stepAlone ≡ r-2

@@ -1,22 +1,20 @@
--- `replay::replay` meets its contract. From turn to turn: the calls so far. The measure is the number of turns that are left. Assumes nothing.
+-- `replay::main` meets its contract. The measure is the number of turns that are left; nothing has to hold from turn to turn. Assumes nothing.
 use native.Mathlib.Omega.{arith}
 use borrow.Author.Needs.{needs}
-use Rattle.replay_judge.proofs.Running.{Running, run-begins}
-use Rattle.replay.proofs.Turns.{no-run, turn-on, turned-last}
-use Rattle.replay.proofs.replay.Statement.{statement}
-use Rattle.replay.proofs.replay.Tie as tie
+use Rattle.replay.proofs.main.Statement.{statement}
+use Rattle.replay.proofs.main.Tie as tie
 
 abbrev Inv-loop : tie.InvT-loop
-Inv-loop portion₀ input₀ out₀ told₀ j₀ turns₀ t9 portion input out told j turns = Running input₀ out₀ turns j input out
+Inv-loop portion₀ input₀ out₀ told₀ j₀ turns₀ t8 portion input out told j turns = Unit {0}
 
 abbrev μ-loop : tie.MeasureT-loop
-μ-loop portion₀ input₀ out₀ told₀ j₀ turns₀ t9 portion input out told j turns = turns
+μ-loop portion₀ input₀ out₀ told₀ j₀ turns₀ t8 portion input out told j turns = turns
 
 begin-requires : tie.Need-begin-requires Inv-loop μ-loop
 begin-requires c κs = search needs
 
 loop-holds : tie.Need-loop-holds Inv-loop μ-loop
-loop-holds c = search run-begins
+loop-holds c = tt
 
 replay-some-requires : tie.Need-replay-some-requires Inv-loop μ-loop
 replay-some-requires c κs = search needs
@@ -25,10 +23,10 @@ replay-end-requires : tie.Need-replay-end-requires Inv-loop μ-loop
 replay-end-requires c κs = search needs
 
 returns : tie.Need-returns Inv-loop μ-loop
-returns c = λ all. search turned-last
+returns c = tt
 
 returns-2 : tie.Need-returns-2 Inv-loop μ-loop
-returns-2 c = no-run
+returns-2 c = tt
 
 sub-turns : tie.Need-sub-turns Inv-loop μ-loop
 sub-turns c = omega arith
@@ -37,7 +35,7 @@ loop-less : tie.Need-loop-less Inv-loop μ-loop
 loop-less c = omega arith
 
 loop-again : tie.Need-loop-again Inv-loop μ-loop
-loop-again c = search turn-on
+loop-again c = tt
 
 slice-aggregate-write-all : tie.Need-slice-aggregate-write-all Inv-loop μ-loop
 slice-aggregate-write-all c = search needs
@@ -46,10 +44,10 @@ write-all-requires : tie.Need-write-all-requires Inv-loop μ-loop
 write-all-requires c κs = search needs
 
 returns-3 : tie.Need-returns-3 Inv-loop μ-loop
-returns-3 c = no-run
+returns-3 c = tt
 
-pub replay-spec : {M : Type 1} → statement M
-replay-spec =
+pub main-spec : {M : Type 1} → statement M
+main-spec =
     tie.close
     (tie.spec
     Inv-loop
