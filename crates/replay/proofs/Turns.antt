@@ -1,12 +1,10 @@
 -- One reading and the end, as what they hand on. Assumes nothing.
 use Prim.Native.Nat.{ℕ}
-use native.Mathlib.Omega.{arith}
 use mathlib.Core.Bool.{Bool, false, _&&_}
 use mathlib.Core.List.{List}
 use mathlib.Core.Path.{_≡_, refl}
 use lib.Dec.{ltb}
-use lib.ListN.{length, length-take, take}
-use Rattle.base_places.specs.Lengths.{portionBytes}
+use lib.ListN.{take}
 use Rattle.replay_judge.specs.Stands.{Finishes, Read}
 use Rattle.replay_judge.specs.declared.Judge.{Judge}
 use Rattle.replay_judge.specs.declared.Turned.{Turned}
@@ -21,14 +19,10 @@ all-handed f e = rw e f
 -- the read failed
 pub read-failed : (j : Judge) (portion input out told : List ℕ)
     → ReadOnce j input out told (record { judge = j; read = 0; count = 0; more = false; well = false }) portion input out told
-read-failed j portion input out told = record { call = nothing-read j input out told; short = omega arith; on = refl }
+read-failed j portion input out told = record { call = nothing-read j input out told; on = refl }
 
 -- n bytes were read and judged, and what they told was handed to be written
 pub read-well : {j : Judge} {input out told : List ℕ} {t : Turned} {input′ out′ told′ : List ℕ} {count : ℕ} (portion : List ℕ) (n : ℕ) (well : Bool)
-    → Read j input out told (take n portion) t input′ out′ told′ → count ≡ t .at → length portion ≡ portionBytes
+    → Read j input out told (take n portion) t input′ out′ told′ → count ≡ t .at
     → ReadOnce j input out told (record { judge = t .judge; read = n; count = count; more = well && ltb 0 n; well = well }) portion input′ out′ told′
-read-well portion n well call e long = record {
-  call = rw e call;
-  short = omega (arith, length-take n portion, long);
-  on = refl;
-}
+read-well portion n well call e = record { call = rw e call; on = refl }

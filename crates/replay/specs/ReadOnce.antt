@@ -1,20 +1,18 @@
 -- What one reading hands on, for `replay_some`. No contract says what the system's `read` put into a buffer, or what its `write` took. So what was
 -- read is said by the buffer that `read` left and how many of its bytes are counted; what was handed to be written, by the buffer of what is told and
 -- the count that `write_out` answers. Assumes nothing.
-use Prim.Native.Nat.{ℕ, _≤_}
+use Prim.Native.Nat.{ℕ}
 use mathlib.Core.Bool.{_&&_}
 use mathlib.Core.List.{List}
 use mathlib.Core.Path.{_≡_}
 use lib.Dec.{ltb}
-use lib.ListN.{length, take}
-use Rattle.base_places.specs.Lengths.{portionBytes}
+use lib.ListN.{take}
 use Rattle.replay_judge.specs.Stands.{Read}
 use Rattle.replay_judge.specs.declared.Judge.{Judge}
 use Rattle.replay.specs.declared.Onward.{Onward}
 
--- the bytes that were read were judged, no more than a portion has, and all that they tell was handed to be written; there may be more to read
--- exactly where all went well and something was read
+-- the bytes that were read were judged, and all that they tell was handed to be written; there may be more to read exactly where all went well and
+-- something was read
 pub record ReadOnce (j : Judge) (input out told : List ℕ) (r : Onward) (portion′ input′ out′ told′ : List ℕ) : Type 0 where
   pub call : Read j input out told (take (r .read) portion′) (record { judge = r .judge; at = r .count }) input′ out′ told′
-  pub short : length (take (r .read) portion′) ≤ portionBytes
   pub on : r .more ≡ r .well && ltb 0 (r .read)

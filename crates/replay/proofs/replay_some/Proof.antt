@@ -28,7 +28,7 @@ write-out-requires c κs = search needs
 returns-2 : tie.Need-returns-2
 returns-2 c =
     let judged = c .before .before .before .before .judge-read in
-    read-well _ _ _ (judged .ensures .0) (c .write-out .ensures) (search needs)
+    read-well _ _ _ (judged .ensures .0) (c .write-out .ensures)
 
 pub replay-some-spec : {M : Type 1} → statement M
 replay-some-spec =
