@@ -4,7 +4,7 @@
     years.py N SEED FOLDER
 
 writes FOLDER/000.txt .. and, by replays.py, FOLDER/000.out .., and a line on each year to FOLDER/LABELS. The fixed years,
-which hold every edge once, come first (there are 49; a smaller N makes the first N of them); the rest are random years of
+which hold every edge once, come first (there are 50; a smaller N makes the first N of them); the rest are random years of
 0 to 12 days, the same for the same seed. The nights are those of texts.py: good ones, damaged ones, random bytes.
 """
 import os
@@ -395,6 +395,7 @@ def fixed_years():
     yield 'nearly D put in', year_of([Day(line + b'\n') for line in NEARLY_D + (b'', b'\0', b'\x1a')])
     yield 'Z put in', year_of([Day(night) for night in (b'Z\n', b'Z\nZ\n', texts.LB + b'Z\n', b'Z\n' + good, good + b'Z\n', b'')])
     yield 'no D', year_of([Day(b''), Day(good, d=b''), Day(b''), Day(b'')])
+    yield 'no D, and it does not show', year_of([Day(b'', d=b''), Day(b'A\n'), Day(b'A\n', d=b''), Day(b'A\n')])
     yield 'no D in the last day', year_of([Day(b''), Day(good, d=b'')])
     yield 'the last input alone', year_of([Day(b''), Day(good, b'', d=b'', z=b'')])
     yield 'D at the end of a line', year_of([Day(good[:-1]), Day(b''), Day(good)])

@@ -10,7 +10,7 @@ use Rattle.text_line.specs.Night.{ofProgram}
 use Rattle.text_read.specs.Text.{closed, feed, feeds, lineEnded, refused, textOf}
 use Rattle.text_write.specs.Lines.{joined, line}
 use Rattle.text_output.specs.Output.{output, outputOf}
-use Rattle.text_output.specs.Examples.{r-2, sampleOutput}
+use Rattle.text_output.specs.Examples.{e-0-0, r-2, sampleOutput}
 use Rattle.text_output.proofs.Examples as written
 use Rattle.replay_days.specs.Judged.{
   compared,
@@ -26,23 +26,27 @@ use Rattle.replay_days.specs.Judged.{
   same,
   verdict,
 }
-use Rattle.replay_days.specs.Examples.{Examples, NightExamples, itsOutput, otherLoad, x}
+use Rattle.replay_days.specs.Examples.{Examples, NightExamples, itsOutput, otherLoad, x, z}
 
--- the line A is bad, with reason 2
-read : textOf ofProgram (65 ∷ 10 ∷ []) ≡ refused 1 2
+-- an empty night's recorded output, a Z and the line A, as one night
+abbrev joint : List ℕ
+joint = e-0-0 ++ z ++ (65 ∷ 10 ∷ [])
+
+-- the line A is bad, with reason 2, and so is a line E
+read : (textOf ofProgram (65 ∷ 10 ∷ []) ≡ refused 1 2) × (textOf ofProgram joint ≡ refused 1 2)
 unfolding textOf closed feeds feed lineEnded readLine readLetter lineLetter letterIn letterOf fields onto
-read = refl
+read = (refl, refl)
 
-its-output : output (65 ∷ 10 ∷ []) ≡ itsOutput
+its-output : (output (65 ∷ 10 ∷ []) ≡ itsOutput) × (output joint ≡ itsOutput)
 unfolding output outputOf line joined decField decBytes decDigits glyph
-its-output = ap outputOf read
+its-output = (ap outputOf (read .0), ap outputOf (read .1))
 
 -- what is said of a day with that night
 abbrev said : ℕ → List (List ℕ) → List ℕ → List ℕ
 said day recorded o = verdict day (firstDiffering 1 (linesOf o) recorded)
 
 known : (day : ℕ) (recorded : List (List ℕ)) → said day recorded (output (65 ∷ 10 ∷ [])) ≡ said day recorded itsOutput
-known day recorded = ap (said day recorded) its-output
+known day recorded = ap (said day recorded) (its-output .0)
 
 pub examples : Examples
 unfolding judged judgedFrom linesOf linesFrom onlyD onlyZ same compared firstDiffering verdict noD dayLine decField decBytes decDigits glyph
@@ -58,6 +62,7 @@ examples = record {
   line-unended = known 1 (x ∷ []);
   line-cut = known 1 ((88 ∷ 9 ∷ 49 ∷ []) ∷ []);
   d-unended = known 1 [];
+  d-forgotten = ap₂ _++_ (ap (said 1 (x ∷ [])) (its-output .1)) refl;
 }
 
 pub of-nights : NightExamples

@@ -4,7 +4,7 @@ use Prim.Native.Nat.{ℕ}
 use mathlib.Core.List.{List, [], _∷_, _++_}
 use mathlib.Core.Path.{_≡_}
 use lib.ListN.{drop, take}
-use Rattle.text_output.specs.Examples.{r-2, sampleNight, sampleOutput, stepAlone}
+use Rattle.text_output.specs.Examples.{e-0-0, r-2, sampleNight, sampleOutput, stepAlone}
 use Rattle.replay_days.specs.Judged.{judged}
 
 -- a night, and the D after it
@@ -55,6 +55,9 @@ pub record Examples : Type 0 where
   pub line-unended : judged (night ++ x) ≡ day-same 49
   pub line-cut : judged (night ++ (88 ∷ 9 ∷ 49 ∷ [])) ≡ day-differs 49 49
   pub d-unended : judged (65 ∷ 10 ∷ 68 ∷ []) ≡ day-differs 49 49
+  -- a D forgotten after an empty night: the output recorded for it, the Z and the next night are one input, and two days are told as one. Its X is told at line 1, as
+  -- the second night's is, so that the day is the same
+  pub d-forgotten : judged (e-0-0 ++ z ++ night ++ itsOutput ++ z) ≡ day-same 49
 
 -- the document's output, with 3 for 4 as the first digit of the load on its I line
 abbrev pub otherLoad : List ℕ
