@@ -19,12 +19,13 @@ use Rattle.list_rules.proofs.Steps.{refused-keeps}
 use Rattle.list_rules.proofs.Exact.{exact-on-tables}
 use Rattle.list_rules.proofs.Few.{told-few}
 use Rattle.list_rules.proofs.Going.{few-refused}
-use Rattle.list_rules.proofs.Room.{answer-read, room-past, tables-are, tables-suc}
+use Rattle.list_rules.proofs.Room.{answer-read, room-past, tables-are}
 use Rattle.list_checks.specs.Checks.{wholeCall}
 use Rattle.list_checks.proofs.Passed as passed
 use Rattle.call_rules.specs.Call.{Ended, Lent, allDone, nothingDone, oneByOne, stepsDone}
 use Rattle.call_rules.specs.Few.{FewTold, TellsFew}
 use Rattle.call_rules.specs.Room.{KeepsRoom, RoomKept}
+use Rattle.call_rules.proofs.Before.{before-more}
 use Rattle.call_rules.specs.Demands.{Demand2, MeetsDemand1, before, numberOf}
 
 -- how a call ended: refused by its number, or all done
@@ -68,7 +69,7 @@ module _ (lent : Lent) (budget : ℕ) (e : Ended) (so : Demand2 lent budget e) w
     passed-all (refused-by nz is) = let none : e .done ≡ 0 = ap (λ (x : Ended). x .done) is in absurd (omega arith)
     passed-all (all-done z is) = z
 
-    number-is : numberOf i e ≡ stepOn (stepAt (lent .steps) i) (before lent i) .answer .number
+    pub number-is : numberOf i e ≡ stepOn (stepAt (lent .steps) i) (before lent i) .answer .number
     unfolding allDone before
     number-is =
         let is = not-refused how in
@@ -83,11 +84,7 @@ module _ (lent : Lent) (budget : ℕ) (e : Ended) (so : Demand2 lent budget e) w
     in-list = let many : e .done ≡ done = ap (λ (x : Ended). x .done) (not-refused how) in omega arith
 
     next : before lent (suc i) ≡ stepOn (stepAt (lent .steps) i) (before lent i) .after
-    unfolding before
-    next =
-        sym (tables-are (lent .steps) (lent .tables) (lent .room) (suc i))
-        ∙ tables-suc (lent .steps) (lent .tables) (lent .room) i in-list
-        ∙ ap (λ (t : Tables). stepOn (stepAt (lent .steps) i) t .after) (tables-are (lent .steps) (lent .tables) (lent .room) i)
+    next = before-more lent i in-list
 
   wrote-nothing : How → e .refusal ≢ 0 → e ≡ nothingDone (e .refusal) lent
   unfolding allDone

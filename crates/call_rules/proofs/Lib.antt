@@ -1,3 +1,6 @@
+pub mod Before
 pub mod Demands
+pub mod Kept
 pub mod Reordered
 pub mod Swapped
+pub mod Pushing

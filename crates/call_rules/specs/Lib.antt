@@ -3,3 +3,4 @@ pub mod Demands
 pub mod Room
 pub mod Swapped
 pub mod Few
+pub mod Pushing

@@ -12,7 +12,7 @@ use lib.Ieee.Exact.{HasValue, round-exact}
 use lib.Ieee.Fits.{down-pos}
 use Rattle.elem_leaves.specs.Finite.{finite}
 
-no-factor : (x c d : ℕ) → 0 < c → x * c ≡ 0 * d → x ≡ 0
+pub no-factor : (x c d : ℕ) → 0 < c → x * c ≡ 0 * d → x ≡ 0
 no-factor x c d h p = eq-of-mul-eq-mul-right c h x 0 (p ∙ zero-mul d ∙ sym (zero-mul c))
 
 -- a value of 0 is the zero that the test compares with

@@ -1,1 +1,2 @@
 pub mod Itself
+pub mod Signs

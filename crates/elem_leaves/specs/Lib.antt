@@ -1,3 +1,4 @@
 pub mod Finite
 pub mod Floats
 pub mod Leaves
+pub mod Signs

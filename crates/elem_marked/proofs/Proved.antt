@@ -4,9 +4,11 @@ use mathlib.Core.Bool.{false}
 use lib.Ieee.{add, sub, mul, div, neg, lt, le, eq, ofInt, ofBits, toBits}
 use Rattle.elem_leaves.specs.Leaves.{dot, max0, clamp, inv}
 use Rattle.elem_velocity.specs.Velocity.{dvel, moved, push, rest}
-use Rattle.elem_block.specs.Block.{system, both, alone, aOnly, bOnly, neither, firstPassing, candidates, kept, blockChoice}
-use Rattle.elem_normal.specs.Normal.{normalImpulse, normalWith, normalMoved, normal, restitutionImpulse, restitution}
-use Rattle.elem_normal.specs.Pair.{choice, degraded, pair, pairChoice, pairDvel, pairMoved}
+use Rattle.elem_impulse.specs.Block.{system, both, alone, aOnly, bOnly, neither, firstPassing, candidates, kept, blockChoice}
+use Rattle.elem_impulse.specs.Pair.{choice, degraded}
+use Rattle.elem_impulse.specs.Point.{normalImpulse, restitutionImpulse}
+use Rattle.elem_normal.specs.Normal.{normalWith, normalMoved, normal, restitution}
+use Rattle.elem_normal.specs.Pair.{pair, pairChoice, pairDvel, pairMoved}
 use Rattle.elem_marked.specs.Numbers.{num}
 use Rattle.elem_marked.specs.Marks.{Marked, all, outcome, at-rest}
 use Rattle.elem_marked.specs.Errors.{DegradedA, DegradedB, LinFirst, ZeroPush, point, up, ones, none, sinking, tiny, b-in-pair, b-by-kind-1}

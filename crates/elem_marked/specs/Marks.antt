@@ -11,10 +11,11 @@ use Rattle.elem_leaves.specs.Leaves.{clamp, inv, vec}
 use Rattle.elem_leaves.specs.declared.Vec2.{Vec2}
 use Rattle.elem_velocity.specs.Velocity.{rest}
 use Rattle.elem_velocity.specs.declared.Vels.{Vels}
-use Rattle.elem_block.specs.Block.{branchNumber}
-use Rattle.elem_block.specs.declared.PairChoice.{PairChoice}
-use Rattle.elem_normal.specs.Normal.{normalImpulse, restitution}
-use Rattle.elem_normal.specs.Pair.{choice}
+use Rattle.elem_impulse.specs.Block.{branchNumber}
+use Rattle.elem_impulse.specs.declared.PairChoice.{PairChoice}
+use Rattle.elem_impulse.specs.Pair.{choice}
+use Rattle.elem_impulse.specs.Point.{normalImpulse}
+use Rattle.elem_normal.specs.Normal.{restitution}
 use Rattle.elem_marked.specs.Numbers.{num, minus, part}
 
 -- what a row gives the definitions, and what it says of the result

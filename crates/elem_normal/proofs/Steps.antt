@@ -1,17 +1,16 @@
 -- What a routine's calls come to, over plain values: each premise is what a callee ensures. Assumes nothing.
-use mathlib.Core.Path.{_≡_, refl}
-use mathlib.Core.Bool.{true, false, _&&_}
+use mathlib.Core.Path.{_≡_}
 use lib.Ieee.{Float}
-use Rattle.elem_leaves.specs.Floats.{_+f_, _-f_, _*f_, _<f_, _>f_, zero}
-use Rattle.elem_leaves.specs.Leaves.{dot, max0, vec}
+use Rattle.elem_leaves.specs.Floats.{_+f_, _-f_}
+use Rattle.elem_leaves.specs.Leaves.{dot, vec}
 use Rattle.elem_leaves.specs.declared.Vec2.{Vec2}
-use Rattle.base_words.proofs.Pick.{take, pass}
 use Rattle.elem_velocity.specs.Velocity.{dvel, push}
 use Rattle.elem_velocity.specs.declared.Vels.{Vels}
-use Rattle.elem_block.specs.declared.Branch.the-variants.{Degraded}
-use Rattle.elem_block.specs.declared.PairChoice.{PairChoice}
-use Rattle.elem_normal.specs.Normal.{normal, normalImpulse, normalMoved, normalWith, restitution, restitutionImpulse}
-use Rattle.elem_normal.specs.Pair.{choice, degraded, pairChoice, pairDvel, pairMoved, pairPush}
+use Rattle.elem_impulse.specs.Pair.{choice}
+use Rattle.elem_impulse.specs.Point.{normalImpulse, restitutionImpulse}
+use Rattle.elem_impulse.specs.declared.PairChoice.{PairChoice}
+use Rattle.elem_normal.specs.Normal.{normal, normalMoved, normalWith, restitution}
+use Rattle.elem_normal.specs.Pair.{pairChoice, pairDvel, pairMoved, pairPush}
 use Rattle.elem_normal.specs.declared.ContactConstraintNormalPart.{ContactConstraintNormalPart}
 use Rattle.elem_normal.specs.declared.NormalSolved.{NormalSolved}
 use Rattle.elem_normal.specs.declared.PairSolved.{PairSolved}
@@ -32,20 +31,11 @@ module _ (p : ContactConstraintNormalPart) (dir im1 im2 : Vec2) (v : Vels) where
   unfolding normal
   pressed a b e = cc
 
-  pub bounced : {speed n : Float} {r : NormalSolved} → speed ≡ dvel dir (p .«torque_dir1») (p .«torque_dir2») (p .seed) v
-      → n ≡ restitutionImpulse p speed → r ≡ normalMoved p n dir im1 im2 v → r ≡ restitution p dir im1 im2 v
+  pub bounced : {speed total n : Float} {r : NormalSolved} → speed ≡ dvel dir (p .«torque_dir1») (p .«torque_dir2») (p .seed) v
+      → total ≡ p .«impulse_accumulator» +f p .impulse → n ≡ restitutionImpulse (p .seed) total (p .impulse) (p .r) speed
+      → r ≡ normalMoved p n dir im1 im2 v → r ≡ restitution p dir im1 im2 v
   unfolding restitution
-  bounced a b e = cc
-
--- restitution, by whether the gate on seed and total is open
-module _ (p : ContactConstraintNormalPart) (speed : Float) {t : Float} (sum : t ≡ p .«impulse_accumulator» +f p .impulse) where
-  pub open-gate : {n : Float} → ((p .seed <f zero) && (t >f zero)) ≡ true → n ≡ max0 (p .impulse -f p .r *f speed) → n ≡ restitutionImpulse p speed
-  unfolding restitutionImpulse
-  open-gate g e = rw (← sum) (take _ g e)
-
-  pub shut-gate : ((p .seed <f zero) && (t >f zero)) ≡ false → p .impulse ≡ restitutionImpulse p speed
-  unfolding restitutionImpulse
-  shut-gate g = rw (← sum) (pass _ g refl)
+  bounced a b e f = cc
 
 -- a pair's choice, from its dvels
 module _ (a b : ContactConstraintNormalPart) (dir : Vec2) (k12 flag : Float) (v : Vels) {l1 l2 x y alone : Float} {r : PairChoice} where
@@ -55,16 +45,6 @@ module _ (a b : ContactConstraintNormalPart) (dir : Vec2) (k12 flag : Float) (v 
       → r ≡ pairChoice a b dir k12 flag v
   unfolding pairChoice
   chosen p q s t u w = cc
-
-abbrev degraded-to : Float → Float → PairChoice
-degraded-to na nb = record { branch = Degraded; impulse = vec na nb }
-
--- a degraded pair: a's impulse, and b's from a's change
-module _ (dvel : Vec2) (speed : Float) (prev : Vec2) (ra rb k12 : Float) (cfm : Vec2) {na nb : Float} where
-  pub one-by-one : na ≡ normalImpulse (cfm .x) (prev .x) ra speed → nb ≡ normalImpulse (cfm .y) (prev .y) rb (dvel .y +f k12 *f (na -f prev .x))
-      → degraded-to na nb ≡ degraded dvel speed prev ra rb k12 cfm
-  unfolding degraded
-  one-by-one a b = cc
 
 abbrev pair-solved : ContactConstraintNormalPart → ContactConstraintNormalPart → Vels → PairChoice → PairSolved
 pair-solved a b v chosen = record { a = a; b = b; vels = v; branch = chosen .branch }

@@ -1,13 +1,11 @@
 -- Document 01, "Arithmetic": what the rules do with one normal part. dir, im1 and im2 are the contact's, v the velocities
 -- of its bodies. Which points are visited, and in which order, is the contact's matter. Assumes nothing.
-use mathlib.Core.Bool.{_&&_}
 use lib.Ieee.{Float}
-use Rattle.base_words.specs.Choice.{if_then_else_}
-use Rattle.elem_leaves.specs.Floats.{_+f_, _-f_, _*f_, _<f_, _>f_, zero}
-use Rattle.elem_leaves.specs.Leaves.{max0}
+use Rattle.elem_leaves.specs.Floats.{_+f_, _-f_, zero}
 use Rattle.elem_leaves.specs.declared.Vec2.{Vec2}
 use Rattle.elem_velocity.specs.Velocity.{dvel, push}
 use Rattle.elem_velocity.specs.declared.Vels.{Vels}
+use Rattle.elem_impulse.specs.Point.{normalImpulse, restitutionImpulse}
 use Rattle.elem_normal.specs.declared.ContactConstraintNormalPart.{ContactConstraintNormalPart}
 use Rattle.elem_normal.specs.declared.NormalSolved.{NormalSolved}
 
@@ -53,9 +51,6 @@ normalMoved p n dir im1 im2 v = record {
 }
 
 -- Normal: n = cfm·max0(impulse − r·dvel); push n − impulse; store n
-unfoldable pub normalImpulse : Float → Float → Float → Float → Float
-normalImpulse cfm impulse r dvel = cfm *f max0 (impulse -f r *f dvel)
-
 unfoldable pub normal : ContactConstraintNormalPart → Vec2 → Vec2 → Vec2 → Vels → NormalSolved
 normal p dir im1 im2 v =
     let n = normalImpulse (p .«cfm_factor») (p .impulse) (p .r) (dvel dir (p .«torque_dir1») (p .«torque_dir2») (p .rhs) v) in
@@ -63,13 +58,8 @@ normal p dir im1 im2 v =
 
 -- Restitution: dvel with seed for rhs; if seed < 0 and accumulator + impulse > 0, n = max0(impulse − r·dvel), without cfm;
 -- else n = impulse. Push the difference, even when zero, and store
-unfoldable pub restitutionImpulse : ContactConstraintNormalPart → Float → Float
-restitutionImpulse p dvel =
-    if (p .seed <f zero) && (p .«impulse_accumulator» +f p .impulse >f zero)
-    then max0 (p .impulse -f p .r *f dvel)
-    else p .impulse
-
 unfoldable pub restitution : ContactConstraintNormalPart → Vec2 → Vec2 → Vec2 → Vels → NormalSolved
 restitution p dir im1 im2 v =
-    let n = restitutionImpulse p (dvel dir (p .«torque_dir1») (p .«torque_dir2») (p .seed) v) in
+    let total = p .«impulse_accumulator» +f p .impulse in
+    let n = restitutionImpulse (p .seed) total (p .impulse) (p .r) (dvel dir (p .«torque_dir1») (p .«torque_dir2») (p .seed) v) in
     normalMoved p n dir im1 im2 v

@@ -1,33 +1,19 @@
--- Document 01, "Arithmetic": the pair, and when its block choice is used. Assumes nothing.
+-- Document 01, "Arithmetic": the pair. Assumes nothing.
 use lib.Ieee.{Float, neg}
-use Rattle.base_words.specs.Choice.{if_then_else_}
-use Rattle.elem_leaves.specs.Floats.{_+f_, _-f_, _*f_, _>f_, half}
+use Rattle.elem_leaves.specs.Floats.{_+f_, _-f_, _*f_}
 use Rattle.elem_leaves.specs.Leaves.{dot, vec}
 use Rattle.elem_leaves.specs.declared.Vec2.{Vec2}
 use Rattle.elem_velocity.specs.Velocity.{dvel, moved}
 use Rattle.elem_velocity.specs.declared.Vels.{Vels}
-use Rattle.elem_block.specs.Block.{blockChoice}
-use Rattle.elem_block.specs.declared.Branch.the-variants.{Degraded}
-use Rattle.elem_block.specs.declared.PairChoice.{PairChoice}
-use Rattle.elem_normal.specs.Normal.{normalImpulse, normalWith}
+use Rattle.elem_impulse.specs.Pair.{choice}
+use Rattle.elem_impulse.specs.declared.PairChoice.{PairChoice}
+use Rattle.elem_normal.specs.Normal.{normalWith}
 use Rattle.elem_normal.specs.declared.ContactConstraintNormalPart.{ContactConstraintNormalPart}
 use Rattle.elem_normal.specs.declared.PairSolved.{PairSolved}
 
 -- each dvel is lin + t1·w1 + t2·w2 + rhs
 unfoldable pub pairDvel : Float → ContactConstraintNormalPart → Vels → Float
 pairDvel lin p v = lin +f p .«torque_dir1» *f v .v1 .angular +f p .«torque_dir2» *f v .v2 .angular +f p .rhs
-
--- degraded: n_a = cfm_a·max0(p − r_a·degraded dvel); n_b = cfm_b·max0(q − r_b·(dvel_b + k12·(n_a − p)))
-unfoldable pub degraded : Vec2 → Float → Vec2 → Float → Float → Float → Vec2 → PairChoice
-degraded dvel degraded-dvel prev ra rb k12 cfm =
-    let na = normalImpulse (cfm .x) (prev .x) ra degraded-dvel in
-    let nb = normalImpulse (cfm .y) (prev .y) rb (dvel .y +f k12 *f (na -f prev .x)) in
-    record { branch = Degraded; impulse = vec na nb }
-
--- The block choice is used only if flag > 0.5. Otherwise degraded
-unfoldable pub choice : Vec2 → Float → Vec2 → Float → Float → Float → Float → Vec2 → PairChoice
-choice dvel degraded-dvel prev ra rb k12 flag cfm =
-    if flag >f half then blockChoice dvel prev ra rb k12 cfm else degraded dvel degraded-dvel prev ra rb k12 cfm
 
 -- lin = dot(dir, v1) − dot(dir, v2). The degraded dvel of a is dvel() in the single-point order
 unfoldable pub pairChoice : ContactConstraintNormalPart → ContactConstraintNormalPart → Vec2 → Float → Float → Vels → PairChoice

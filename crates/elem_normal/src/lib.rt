@@ -1,19 +1,19 @@
 // The normal part of a contact point, alone and in pairs, as in the Rust's
 // contact_constraint_element.rs for one lane of f32 in the plane: the same names in the same order.
 // A routine takes the part and the two velocities by value and gives the new ones back.
-use elem_block::Branch;
-use elem_block::PairChoice;
-use elem_block::block_choice;
+use elem_impulse::Branch;
+use elem_impulse::PairChoice;
+use elem_impulse::choice;
+use elem_impulse::normal_impulse;
+use elem_impulse::restitution_impulse;
 use elem_leaves::Vec2;
-use elem_leaves::max0;
 use elem_velocity::Vels;
 ghost use mathlib.Core.Path.{_≡_};
 ghost use Rattle.elem_leaves.specs.Floats.{_+f_};
-ghost use Rattle.elem_normal.specs.Normal.{normal, normalImpulse, normalMoved, normalWarm};
-ghost use Rattle.elem_normal.specs.Normal.{normalWith, normalZero};
-ghost use Rattle.elem_normal.specs.Normal.{restitution, restitutionImpulse};
-ghost use Rattle.elem_normal.specs.Pair.{choice, degraded, pair, pairChoice, pairDvel};
-ghost use Rattle.elem_normal.specs.Pair.{pairMoved, pairPush};
+ghost use Rattle.elem_impulse.specs.Pair.{choice};
+ghost use Rattle.elem_normal.specs.Normal.{normal, normalMoved, normalWarm, normalWith, normalZero};
+ghost use Rattle.elem_normal.specs.Normal.{restitution};
+ghost use Rattle.elem_normal.specs.Pair.{pair, pairChoice, pairDvel, pairMoved, pairPush};
 
 // Pushing, along the contact's direction.
 pub struct ContactConstraintNormalPart {
@@ -116,27 +116,16 @@ impl ContactConstraintNormalPart {
         self.moved(n, dir1, im1, im2, vels)
     }
 
-    // Only a point that has pushed in this recording bounces.
-    fn restitution_impulse(self, dvel: f32) -> f32
-        ensures { λ r. ⌜ r ≡ restitutionImpulse self dvel ⌝ }
-    {
-        let gate = (self.seed < 0.0) & (self.total_impulse() > 0.0);
-        if gate {
-            return max0(self.impulse - self.r * dvel);
-        }
-        self.impulse
-    }
-
     pub fn solve_restitution(self, dir1: Vec2, im1: Vec2, im2: Vec2, vels: Vels) -> NormalSolved
         ensures { λ r. ⌜ r ≡ restitution self dir1 im1 im2 vels ⌝ }
     {
         let dvel = vels.dvel(dir1, self.torque_dir1, self.torque_dir2, self.seed);
-        let n = self.restitution_impulse(dvel);
+        let total = self.total_impulse();
+        let n = restitution_impulse(self.seed, total, self.impulse, self.r, dvel);
         self.moved(n, dir1, im1, im2, vels)
     }
 
-    // New impulses for two coupled points: as a block where the flag allows it, else one after
-    // the other, k12 carrying what a's change does to b.
+    // New impulses for two coupled points. It sees no part, and so stands in elem_impulse; here it has the Rust's name.
     pub fn solve_mlcp_two_constraints(
         dvel: Vec2,
         degraded_dvel: f32,
@@ -149,10 +138,7 @@ impl ContactConstraintNormalPart {
     ) -> PairChoice
         ensures { λ r. ⌜ r ≡ choice dvel «degraded_dvel» prev ra rb k12 flag cfm ⌝ }
     {
-        if flag > 0.5 {
-            return block_choice(dvel, prev, ra, rb, k12, cfm);
-        }
-        degraded(dvel, degraded_dvel, prev, ra, rb, k12, cfm)
+        choice(dvel, degraded_dvel, prev, ra, rb, k12, flag, cfm)
     }
 
     pub fn solve_pair(
@@ -169,31 +155,6 @@ impl ContactConstraintNormalPart {
     {
         let chosen = pair_choice(a, b, dir1, k12, flag, vels);
         pair_moved(a, b, chosen, dir1, im1, im2, vels)
-    }
-}
-
-fn normal_impulse(cfm: f32, impulse: f32, r: f32, dvel: f32) -> f32
-    ensures { λ n. ⌜ n ≡ normalImpulse cfm impulse r dvel ⌝ }
-{
-    cfm * max0(impulse - r * dvel)
-}
-
-fn degraded(
-    dvel: Vec2,
-    degraded_dvel: f32,
-    prev: Vec2,
-    ra: f32,
-    rb: f32,
-    k12: f32,
-    cfm: Vec2,
-) -> PairChoice
-    ensures { λ r. ⌜ r ≡ degraded dvel «degraded_dvel» prev ra rb k12 cfm ⌝ }
-{
-    let na = normal_impulse(cfm.x, prev.x, ra, degraded_dvel);
-    let nb = normal_impulse(cfm.y, prev.y, rb, dvel.y + k12 * (na - prev.x));
-    PairChoice {
-        branch: Branch::Degraded,
-        impulse: Vec2 { x: na, y: nb },
     }
 }
 

@@ -7,7 +7,8 @@ use Rattle.elem_leaves.specs.Finite.{finite}
 use Rattle.elem_leaves.specs.Floats.{half, one, zero}
 use Rattle.elem_leaves.specs.Leaves.{dot, max0, tangent}
 use Rattle.elem_velocity.specs.Velocity.{dvel, moved, push, rest}
-use Rattle.elem_normal.specs.Normal.{normal, normalImpulse, normalMoved, normalWarm, normalWith}
+use Rattle.elem_impulse.specs.Point.{normalImpulse}
+use Rattle.elem_normal.specs.Normal.{normal, normalMoved, normalWarm, normalWith}
 use Rattle.step_kinds.specs.Kinds.{atPoint, normalAt, normalLeft, overPoints, turn, warmNormalAt, warmStart, warmTangentAt}
 use Rattle.step_kinds.specs.Table.{kindOf, kinds, pointsFor, routine, stores}
 use Rattle.step_shape.specs.Shape.{kindAbove, pairOfOne, wrongBodies, wrongCount}

@@ -2,10 +2,9 @@
 use mathlib.Core.Path.{_≡_, refl, sym, ap, _∙_}
 use mathlib.Core.Bool.{Bool, true, false, not, _&&_, _||_}
 use lib.Dec.{ltb}
-use lib.Ieee.{Float, le}
+use lib.Ieee.{Float}
 use Rattle.elem_leaves.specs.Finite.{finite}
-use Rattle.elem_leaves.specs.Floats.{_>f_, one, zero}
-use Rattle.base_words.proofs.Said.{none-l, none-r}
+use Rattle.elem_leaves.specs.Signs.{NotBelow0}
 use Rattle.elem_tangent.specs.Tangent.{tangentWith}
 use Rattle.elem_normal.specs.Normal.{normalWith}
 use Rattle.base_places.specs.Places.{cells}
@@ -16,10 +15,10 @@ use Rattle.step_contact.specs.declared.Contact.{Contact}
 use Rattle.step_contact.specs.declared.ContactHead.{ContactHead}
 use Rattle.step_contact.specs.declared.ContactPoint.{ContactPoint}
 use Rattle.step_kinds.proofs.Stored.{outlasts}
-use Rattle.step_kinds.proofs.Places.{Place, at-a, at-b, number, point}
+use Rattle.step_contact.specs.Places.{Place, at-a, at-b, number, point}
 use Rattle.step_kinds.specs.Stored.{storedAt}
-use Rattle.step_values.proofs.Passed.{cell-finite}
-use Rattle.step_values.specs.Values.{below0, belowCount, finiteNormal, finitePoint, finiteTangent, floorMoves, pointOut, somePoint}
+use Rattle.step_values.proofs.Passed.{cell-finite, in-range}
+use Rattle.step_values.specs.Values.{belowCount, finiteNormal, finitePoint, finiteTangent, pointOut, somePoint}
 
 -- 8, of a point with a finite float for a finite one in a cell
 cell-stays-finite : (c : Cell) (p : ContactPoint) (x : Float) → finite x ≡ true → finitePoint p ≡ true → finitePoint (withCell c p x) ≡ true
@@ -29,23 +28,10 @@ cell-stays-finite TangentImpulse p x e f = rw (e ∙ sym (cell-finite TangentImp
 
 -- 9, of a point with another float in a cell: of the cells only the normal impulse is looked at
 module _ (h : ContactHead) (p : ContactPoint) where
-  -- a point in range has an impulse in range
-  impulse-in-range : pointOut h p ≡ false → below0 (p .«normal_part» .impulse) ≡ false
-  unfolding pointOut
-  impulse-in-range e =
-      let n = p .«normal_part» in
-      let t = p .«tangent_part» in
-      let rs = below0 (n .r) || below0 (t .r) in
-      let cfm = not ((n .«cfm_factor» >f zero) && le (n .«cfm_factor») one) in
-      let f1 = floorMoves (h .body1) (n .«ii_torque_dir1») (t .«ii_torque_dir1») in
-      let f2 = floorMoves (h .body2) (n .«ii_torque_dir2») (t .«ii_torque_dir2») in
-      let i = below0 (n .impulse) in
-      none-r rs i (none-l (rs || i) cfm (none-l (rs || i || cfm) f1 (none-l (rs || i || cfm || f1) f2 e)))
-
-  cell-stays-in-range : (q : ContactPoint) → below0 (q .«normal_part» .impulse) ≡ false → (c : Cell) → pointOut h p ≡ false
+  cell-stays-in-range : (q : ContactPoint) → NotBelow0 (q .«normal_part» .impulse) → (c : Cell) → pointOut h p ≡ false
       → pointOut h (withCell c p (inCell c q)) ≡ false
   unfolding pointOut withCell normalWith tangentWith
-  cell-stays-in-range q e NormalImpulse o = rw (e ∙ sym (impulse-in-range o)) o
+  cell-stays-in-range q e NormalImpulse o = rw (e ∙ sym (in-range h p o .0)) o
   cell-stays-in-range q e TangentImpulse o = o
 
 -- over the point, by the cells that are stored
@@ -55,7 +41,7 @@ module _ (which : Cell → Bool) (p q : ContactPoint) (is-stored : q ≡ storedA
       ap finitePoint is-stored
       ∙ outlasts (λ (r : ContactPoint). finitePoint r ≡ true) cells which p q f (λ c r _ was. cell-stays-finite c r (inCell c q) (new c) was)
 
-  pub point-stays-in-range : (h : ContactHead) → pointOut h p ≡ false → below0 (q .«normal_part» .impulse) ≡ false → pointOut h q ≡ false
+  pub point-stays-in-range : (h : ContactHead) → pointOut h p ≡ false → NotBelow0 (q .«normal_part» .impulse) → pointOut h q ≡ false
   point-stays-in-range h o new =
       ap (pointOut h) is-stored
       ∙ outlasts (λ (r : ContactPoint). pointOut h r ≡ false) cells which p q o (λ c r _ was. cell-stays-in-range h r q new c was)

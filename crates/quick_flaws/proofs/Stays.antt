@@ -4,27 +4,29 @@ use mathlib.Core.Path.{_≡_, refl, ap, _∙_}
 use mathlib.Core.Bool.{Bool, true, false, not, _||_}
 use borrow.Author.Tests.{eqb-true, ltb-true}
 use lib.Dec.{eqb, ltb}
-use Rattle.base_words.proofs.Said.{none-l, none-r, not-so, so}
+use Rattle.base_words.proofs.Said.{none-l, none-r, so}
 use Rattle.base_refusals.specs.Refusals.{first}
 use Rattle.base_refusals.specs.Distinct.{distinct, stands}
 use Rattle.base_refusals.proofs.Exact.{none-holds}
 use Rattle.base_places.specs.declared.Cell.{Cell}
+use Rattle.elem_leaves.specs.Signs.{NotBelow0}
+use Rattle.elem_leaves.proofs.Signs.{not-below}
 use Rattle.step_contact.specs.declared.Contact.{Contact}
 use Rattle.step_contact.specs.declared.ContactHead.{ContactHead}
-use Rattle.step_contact.specs.declared.ContactPoint.{ContactPoint}
 use Rattle.step_kinds.proofs.Keeps.{same-head, stored-point}
-use Rattle.step_kinds.proofs.Places.{Place, at-a, at-b, number, point}
+use Rattle.step_contact.specs.Places.{Place, at-a, at-b, load, number, point}
 use Rattle.step_kinds.specs.Table.{stores}
 use Rattle.step_kinds.specs.Stored.{stored}
 use Rattle.step_kinds.specs.declared.ContactSolved.{ContactSolved}
 use Rattle.step_shape.specs.Shape.{wrongBodies, wrongCount}
 use Rattle.step_values.proofs.Passed.{not-at}
-use Rattle.step_values.specs.Values.{below0, finiteHead, finitePoint, headOut, notFinite, outOfRange, pointOut, somePoint}
+use Rattle.step_values.specs.Values.{finiteHead, finitePoint, headOut, notFinite, outOfRange, pointOut, somePoint}
 use Rattle.step_rules.specs.Step.{checks}
 use Rattle.step_promises.proofs.Promises.{bodies-passed, finite-done, known, same-head-kept, untouched}
+use Rattle.step_promises.proofs.Pushing.{done-loads}
 use Rattle.step_promises.specs.Promises.{FiniteCells, FiniteResult}
 use Rattle.quick_flaws.proofs.Kept.{none-at, point-stays-finite, point-stays-in-range}
-use Rattle.quick_flaws.specs.Flaws.{StaysVouched, flaw, halfAt, ofContact, pressing, vouched}
+use Rattle.quick_flaws.specs.Flaws.{StaysVouched, flaw, halfAt, ofContact, vouched}
 
 -- what it is to be vouched for, one number after the other
 pub record Passed (rows : ℕ) (c : Contact) : Type 0 where
@@ -66,14 +68,13 @@ module _ (which : Cell → Bool) (c d : Contact) (is-stored : d ≡ stored which
       let f = so (finitePoint (point x c)) (not-at (λ p. not (finitePoint p)) c old x was) in
       ap not (point-stays-finite which (point x c) (point x d) (stored-point which c d is-stored x was) f (new x below)))
 
-  points-stay-in-range : somePoint (pointOut (c .head)) c ≡ false → pressing d ≡ true → somePoint (pointOut (d .head)) d ≡ false
-  unfolding pressing
+  points-stay-in-range : somePoint (pointOut (c .head)) c ≡ false → ((x : Place) → ltb (number x) (c .head .count) ≡ true → NotBelow0 (load x d))
+      → somePoint (pointOut (d .head)) d ≡ false
   points-stay-in-range old new =
       none-at (pointOut (d .head)) d (λ x below.
       let was = old-below x below in
-      let pushes : ContactPoint → Bool = λ p. below0 (p .«normal_part» .impulse) in
       let kept = point-stays-in-range which (point x c) (point x d) (stored-point which c d is-stored x was) (c .head)
-      (not-at (pointOut (c .head)) c old x was) (not-at pushes d (not-so (somePoint pushes d) new) x below) in
+      (not-at (pointOut (c .head)) c old x was) (new x was) in
       ap (λ (h : ContactHead). pointOut h (point x d)) head-kept ∙ kept)
 
 neither : {p q : Bool} → p ≡ false → q ≡ false → (p || q) ≡ false
@@ -86,7 +87,7 @@ at-points s f at-b below = f .at-b (ltb-true 1 (s .contact .head .count) below)
 
 pub stays-vouched : StaysVouched
 unfolding notFinite outOfRange
-stays-vouched c kind v rows s e pushes =
+stays-vouched c kind v rows s e =
     let d = s .contact in
     let k = known c kind v rows s e in
     let stored-in = untouched c kind v rows s e in
@@ -95,7 +96,8 @@ stays-vouched c kind v rows s e pushes =
     let wrong-points = somePoint (λ p. not (finitePoint p)) c in
     let points = points-stay-finite (stores kind) c d stored-in (none-r wrong-head wrong-points (k .read-finite)) (at-points s (finite-done c kind v rows s e)) in
     let range = points-stay-in-range (stores kind) c d stored-in
-    (none-r (headOut (c .head)) (somePoint (pointOut (c .head)) c) (k .in-range)) pushes in
+    (none-r (headOut (c .head)) (somePoint (pointOut (c .head)) c) (k .in-range))
+    (λ x below. not-below (load x d) (done-loads c kind v rows s e x (ltb-true (number x) (c .head .count) below))) in
     vouch-for rows d (record {
       bodies = rw head (bodies-passed c kind v rows s e);
       count = rw head (k .counted);

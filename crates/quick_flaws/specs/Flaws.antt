@@ -2,7 +2,7 @@
 -- it. Its flaw is the first number that refuses it by the part of the one list (`checks`) that looks at the contact alone; a contact
 -- without a flaw is vouched for. Assumes nothing.
 use Prim.Native.Nat.{ℕ}
-use mathlib.Core.Bool.{Bool, true, not, _||_}
+use mathlib.Core.Bool.{Bool, true, _||_}
 use mathlib.Core.List.{List, [], _∷_}
 use mathlib.Core.Path.{_≡_}
 use lib.Dec.{eqb}
@@ -10,7 +10,6 @@ use Rattle.elem_velocity.specs.declared.Vels.{Vels}
 use Rattle.step_contact.specs.declared.Contact.{Contact}
 use Rattle.step_kinds.specs.Table.{routine}
 use Rattle.step_kinds.specs.declared.ContactSolved.{ContactSolved}
-use Rattle.step_values.specs.Values.{below0, somePoint}
 use Rattle.base_refusals.specs.Refusals.{Condition, _when_, first}
 use Rattle.step_rules.specs.Step.{Check, Looks, at-both, at-contact, at-step, checks, firstOr, step}
 use Rattle.step_rules.specs.declared.Outcome.{Outcome}
@@ -49,12 +48,6 @@ askedKnowing f (k ∷ ks) c kind v = k .number when holdsKnowing f (k .number) (
 unfoldable pub triedKnowing : Contact → ℕ → Vels → ℕ → Outcome
 triedKnowing c kind v f = firstOr (askedKnowing f checks c kind v) (routine kind c v)
 
--- no normal impulse of a point below count is below 0
-unfoldable pub pressing : Contact → Bool
-pressing c = not (somePoint (λ p. below0 (p .«normal_part» .impulse)) c)
-
--- a done step leaves a contact that is vouched for, if its normal impulses are not below 0. Proved in proofs/Stays.antt
+-- a done step leaves a contact that is vouched for. Proved in proofs/Stays.antt
 abbrev pub StaysVouched : Type 0
-StaysVouched =
-    (c : Contact) (kind : ℕ) (v : Vels) (rows : ℕ) (s : ContactSolved) → step c kind v rows ≡ Done s → pressing (s .contact) ≡ true
-    → vouched rows (s .contact) ≡ true
+StaysVouched = (c : Contact) (kind : ℕ) (v : Vels) (rows : ℕ) (s : ContactSolved) → step c kind v rows ≡ Done s → vouched rows (s .contact) ≡ true

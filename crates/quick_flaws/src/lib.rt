@@ -6,7 +6,7 @@ use step_shape::wrong_count;
 use step_values::not_finite;
 use step_values::out_of_range;
 ghost use mathlib.Core.Path.{_≡_};
-ghost use Rattle.quick_flaws.specs.Flaws.{flaw, pressing};
+ghost use Rattle.quick_flaws.specs.Flaws.{flaw};
 
 // What is wrong with a contact, by its number, or 0; rows is how many bodies the table has.
 pub fn flaw(contact: Contact, rows: usize) -> u16
@@ -26,14 +26,4 @@ pub fn flaw(contact: Contact, rows: usize) -> u16
         return 9;
     }
     0
-}
-
-// Whether no normal impulse of a point below count is below 0.
-pub fn pressing(contact: Contact) -> bool
-    ensures { λ r. ⌜ r ≡ pressing contact ⌝ }
-{
-    let count = contact.head.count;
-    let a = contact.a.normal_part;
-    let b = contact.b.normal_part;
-    !(((0 < count) & (a.impulse < 0.0)) | ((1 < count) & (b.impulse < 0.0)))
 }

@@ -2,7 +2,7 @@
 use Prim.Native.Nat.{ℕ, zero, suc, _≤_}
 use native.Mathlib.Nat.{le-of-suc-le-suc, not-suc-le-zero}
 use borrow.Author.Tests.{eqb-false, eqb-true}
-use mathlib.Core.Bool.{Bool, true, false, _&&_}
+use mathlib.Core.Bool.{Bool, true, false}
 use mathlib.Core.List.{List, [], _∷_}
 use mathlib.Core.Logic.{_≢_}
 use mathlib.Core.Path.{_≡_, refl, sym, ap, _∙_}
@@ -11,7 +11,6 @@ use lib.ListN.{getD, length, replicate, set}
 use Rattle.base_places.specs.Places.{bodyWidth, floatsWidth}
 use Rattle.base_words.specs.Choice.{if_then_else_}
 use Rattle.base_words.proofs.Pick.{never}
-use Rattle.base_words.proofs.Said.{all-l, all-r}
 use Rattle.step_contact.specs.declared.Contact.{Contact}
 use Rattle.step_kinds.specs.declared.ContactSolved.{ContactSolved}
 use Rattle.step_rules.proofs.Chain.{not-both}
@@ -22,7 +21,7 @@ use Rattle.list_tables.specs.Tables.{contactAt}
 use Rattle.list_tables.specs.declared.Step.{Step}
 use Rattle.list_cells.specs.declared.Answer.{Answer}
 use Rattle.base_order.specs.OneByOne.{Stepped}
-use Rattle.quick_flaws.specs.Flaws.{flaw, pressing, vouched}
+use Rattle.quick_flaws.specs.Flaws.{flaw, vouched}
 use Rattle.quick_flaws.proofs.Stays.{stays-vouched}
 use Rattle.list_rules.specs.Sweep.{Tables, itsContact, outcome, stepOn, velsAt}
 use Rattle.list_rules.proofs.Done.{done-there, its-contact}
@@ -92,8 +91,8 @@ module _ (s : Step) (t : Tables) where
   row-stays k other = ap (λ l. row floatsWidth k l) (after-floats s t) ∙ contact-stays s (outcome s t) (t .floats) k other
 
   -- its own contact: as it was, or with its new impulses
-  own-vouched : vouchedAt t (s .contact) ≡ true → pressing (contactAt (after .numbers) (after .floats) (s .contact)) ≡ true → vouchedAt after (s .contact) ≡ true
-  own-vouched was pushes = by-case (outcome s t) refl
+  own-vouched : vouchedAt t (s .contact) ≡ true → vouchedAt after (s .contact) ≡ true
+  own-vouched was = by-case (outcome s t) refl
     where
       by-case : (o : Outcome) → outcome s t ≡ o → vouchedAt after (s .contact) ≡ true
       by-case (Refused n) e = same-vouched (s .contact) (row-stays (s .contact) (λ d done. not-both (sym e ∙ done))) ∙ was
@@ -102,11 +101,11 @@ module _ (s : Step) (t : Tables) where
           let copies = done-there s t d e in
           ap (λ n. vouched n (contactAt (after .numbers) (after .floats) (s .contact))) as-many-bodies
           ∙ ap (vouched (rows bodyWidth (t .bodies))) back
-          ∙ stays-vouched (itsContact s t) (s .kind) (velsAt (t .bodies) (itsContact s t .head)) (rows bodyWidth (t .bodies)) d (copies .1) (rw (← back) pushes)
+          ∙ stays-vouched (itsContact s t) (s .kind) (velsAt (t .bodies) (itsContact s t .head)) (rows bodyWidth (t .bodies)) d (copies .1)
 
   -- its contact needs no more testing
   abbrev settled : Bool
-  settled = vouchedAt t (s .contact) && pressing (contactAt (after .numbers) (after .floats) (s .contact))
+  settled = vouchedAt t (s .contact)
 
   -- so the flags are right again
   pub stay-right : (flags : List ℕ) → Vouching flags t → Vouching (flagged flags (s .contact) settled) after
@@ -116,21 +115,19 @@ module _ (s : Step) (t : Tables) where
       by-case : (same : Bool) → eqb j (s .contact) ≡ same → vouchedAt after j ≡ true
       by-case true e =
           let is : j ≡ s .contact = eqb-true j (s .contact) e in
-          let put = own-flag flags (s .contact) settled (rw is at up) in
-          let still = pressing (contactAt (after .numbers) (after .floats) (s .contact)) in
-          rw is (own-vouched (all-l (vouchedAt t (s .contact)) still put) (all-r (vouchedAt t (s .contact)) still put))
+          rw is (own-vouched (own-flag flags (s .contact) settled (rw is at up)))
       by-case false e =
           let ne = eqb-false j (s .contact) e in
           same-vouched j (row-stays j (λ d done. ne)) ∙ right j (sym (other-flag flags (s .contact) j settled ne) ∙ up)
 
 -- a turn's calls, put together
-pub flags-right : (flags : List ℕ) (t : Tables) (s : Step) {a : Answer} {t′ : Tables} {found : ℕ} {still : Bool} {left : Contact} {flags′ : List ℕ} → Vouching flags t
-    → found ≡ flawAt t (s .contact) → record { answer = a; after = t′ } ≡ stepOn s t → left ≡ contactAt (t′ .numbers) (t′ .floats) (s .contact)
-    → still ≡ pressing left → flags′ ≡ flagged flags (s .contact) (eqb found 0 && still) → Vouching flags′ t′
+pub flags-right : (flags : List ℕ) (t : Tables) (s : Step) {a : Answer} {t′ : Tables} {found : ℕ} {flags′ : List ℕ} → Vouching flags t
+    → found ≡ flawAt t (s .contact) → record { answer = a; after = t′ } ≡ stepOn s t → flags′ ≡ flagged flags (s .contact) (eqb found 0)
+    → Vouching flags′ t′
 unfolding vouched
-flags-right flags t s right tested done read pushes put =
+flags-right flags t s right tested done put =
     let is-after = ap (λ (x : Stepped Answer Tables). x .after) done in
-    rw (put, tested, pushes, read, is-after) (stay-right s t flags right)
+    rw (put, tested, is-after) (stay-right s t flags right)
 
 -- at first no flag is up
 pub none-up : (n : ℕ) (t : Tables) → Vouching (replicate n 0) t

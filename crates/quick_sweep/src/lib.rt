@@ -8,7 +8,6 @@ use list_tables::contact_at;
 use list_tables::step_at;
 use list_tables::steps_among;
 use quick_flaws::flaw;
-use quick_flaws::pressing;
 use quick_step::step_on;
 ghost use mathlib.Core.Path.{_≡_};
 ghost use Rattle.base_words.specs.Choice.{if_then_else_};
@@ -71,8 +70,7 @@ fn next_step(
     let found = its_flaw(bodies, numbers, floats, flags, k);
     let answer = step_on(bodies, numbers, floats, s, found);
     put_answer(room, i, answer);
-    let still = pressing(contact_at(numbers, floats, k));
-    raise(flags, k, (found == 0) & still);
+    raise(flags, k, found == 0);
     answer
 }
 

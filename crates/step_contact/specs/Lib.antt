@@ -1,2 +1,3 @@
 pub mod Contact
 pub mod Cells
+pub mod Places

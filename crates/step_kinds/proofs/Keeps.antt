@@ -12,7 +12,7 @@ use Rattle.elem_velocity.specs.declared.Vels.{Vels}
 use Rattle.elem_tangent.proofs.Keeps.{friction-keeps}
 use Rattle.elem_normal.proofs.Keeps.{normal-keeps, pair-keeps, restitution-keeps}
 use Rattle.elem_normal.specs.declared.ContactConstraintNormalPart.{ContactConstraintNormalPart}
-use Rattle.step_kinds.proofs.Places.{Place, at-a, at-b, number, point}
+use Rattle.step_contact.specs.Places.{Place, at-a, at-b, number, point}
 use Rattle.step_kinds.specs.Kinds.{atPoint, frictionAt, normalAt, normalLeft, overPoints, pairOf, restitutionAt, turn, warmNormalAt, warmStart, warmTangentAt}
 use Rattle.step_kinds.specs.Table.{kindOf, kinds, noKind, pointsFor, routine, stores}
 use Rattle.step_kinds.specs.Stored.{stored, storedAt, storedIn}
@@ -84,7 +84,7 @@ same-parts : (c : Contact) {a a′ b b′ : ContactConstraintNormalPart} → a �
 same-parts c p q = cc
 
 module _ (c : Contact) (v : Vels) where
-  warm-keeps : warmStart c v .contact ≡ c
+  pub warm-keeps : warmStart c v .contact ≡ c
   unfolding warmStart
   warm-keeps =
       let pushed = overPoints WarmNormal c v in

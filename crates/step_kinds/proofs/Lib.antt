@@ -1,5 +1,4 @@
 pub mod Keeps
-pub mod Places
 pub mod Turns
 pub mod Stored
 pub mod NoKind

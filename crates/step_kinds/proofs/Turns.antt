@@ -8,7 +8,7 @@ use Rattle.elem_velocity.specs.declared.Vels.{Vels}
 use Rattle.elem_tangent.specs.Tangent.{friction, tangentWarm}
 use Rattle.elem_tangent.specs.declared.ContactConstraintTangentPart.{ContactConstraintTangentPart}
 use Rattle.elem_tangent.specs.declared.TangentSolved.{TangentSolved}
-use Rattle.elem_block.specs.Block.{branchNumber}
+use Rattle.elem_impulse.specs.Block.{branchNumber}
 use Rattle.elem_normal.specs.Normal.{normalWarm}
 use Rattle.elem_normal.specs.Pair.{pair}
 use Rattle.elem_normal.specs.declared.ContactConstraintNormalPart.{ContactConstraintNormalPart}

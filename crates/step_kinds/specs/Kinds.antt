@@ -7,7 +7,7 @@ use Rattle.elem_leaves.specs.Floats.{_*f_}
 use Rattle.elem_leaves.specs.Leaves.{tangent}
 use Rattle.elem_velocity.specs.declared.Vels.{Vels}
 use Rattle.elem_tangent.specs.Tangent.{friction, tangentWarm}
-use Rattle.elem_block.specs.Block.{branchNumber}
+use Rattle.elem_impulse.specs.Block.{branchNumber}
 use Rattle.elem_normal.specs.Normal.{normal, normalWarm, restitution}
 use Rattle.elem_normal.specs.Pair.{pair}
 use Rattle.elem_normal.specs.declared.NormalSolved.{NormalSolved}

@@ -5,16 +5,17 @@ use native.Mathlib.Omega.{arith}
 use mathlib.Core.Path.{_≡_, refl, sym, ap, _∙_}
 use mathlib.Core.Bool.{Bool, true, false, cond}
 use mathlib.Core.List.{List, [], _∷_}
+use mathlib.Core.Logic.{_≢_}
 use borrow.Author.Tests.{eqb-false, eqb-true, lt-ltb}
 use lib.Dec.{eqb}
 use Rattle.elem_velocity.specs.declared.SolverVel.{SolverVel}
 use Rattle.elem_velocity.specs.declared.Vels.{Vels}
 use Rattle.step_kinds.proofs.Keeps.{no-branch, routine-keeps, same-head}
 use Rattle.step_contact.specs.Contact.{isFloor}
-use Rattle.step_kinds.proofs.Places.{at-a, at-b}
-use Rattle.elem_block.specs.Block.{branchNumber}
-use Rattle.elem_block.specs.declared.Branch.{Branch}
-use Rattle.elem_block.specs.declared.Branch.the-variants.{Both, Degraded, Kept, Neither, OnlyA, OnlyB}
+use Rattle.step_contact.specs.Places.{at-a, at-b}
+use Rattle.elem_impulse.specs.Block.{branchNumber}
+use Rattle.elem_impulse.specs.declared.Branch.{Branch}
+use Rattle.elem_impulse.specs.declared.Branch.the-variants.{Both, Degraded, Kept, Neither, OnlyA, OnlyB}
 use Rattle.elem_normal.specs.Pair.{pair}
 use Rattle.step_kinds.specs.Kinds.{pairOf}
 use Rattle.step_kinds.specs.Table.{kindOf, kinds, routine, stores}
@@ -29,7 +30,7 @@ use Rattle.base_refusals.specs.Refusals.{Condition, first}
 use Rattle.base_refusals.specs.Distinct.{distinct, stands}
 use Rattle.base_words.proofs.Said.{none-l}
 use Rattle.base_refusals.proofs.Chain.{none}
-use Rattle.base_refusals.proofs.Exact.{None, exactly, left, taken}
+use Rattle.base_refusals.proofs.Exact.{Apart, None, apart, exactly, left, taken}
 use Rattle.step_promises.specs.Promises.{BranchOfPairs, DistinctNumbers, ExactAnswers, FewBranches, FiniteDone, FloorKept, SameHead, Untouched}
 use Rattle.step_rules.proofs.Chain.{not-both}
 use Rattle.step_rules.specs.Step.{answer, asRead, asWritten, asked, branch, checks, conditions, firstOr, holdsOf, step, tried, writes, writtenVels}
@@ -99,7 +100,7 @@ pub record Known (c : Contact) (kind : ℕ) (v : Vels) (s : ContactSolved) : Typ
   pub read-finite : notFinite c ≡ false
   pub in-range : outOfRange c ≡ false
   writable : unwritable kind (routine kind c (asRead (c .head) v)) ≡ false
-  contact : s .contact ≡ routine kind c (asRead (c .head) v) .contact
+  pub contact : s .contact ≡ routine kind c (asRead (c .head) v) .contact
   vels : s .vels ≡ writtenVels (c .head) v (routine kind c (asRead (c .head) v) .vels)
 
 pub known : (c : Contact) (kind : ℕ) (v : Vels) (rows : ℕ) (s : ContactSolved) → step c kind v rows ≡ Done s → Known c kind v s
@@ -117,6 +118,28 @@ known c kind v rows s e =
       contact = w .3 ∙ ap (λ (x : ContactSolved). x .contact) (sym (p .1));
       vels = w .4 ∙ ap (λ (x : ContactSolved). writtenVels (c .head) v (x .vels)) (sym (p .1));
     }
+
+-- a refused step's number is one of the list's, and so not 0
+named : (cs : List Condition) (made : ContactSolved) (n : ℕ) → distinct cs ≡ true → firstOr cs made ≡ Refused n → n ≢ 0
+unfolding firstOr
+named [] made n numbers e = absurd (not-both (sym e))
+named (c ∷ cs) made n numbers e = by-case (c .holds) (apart c cs numbers) (named cs made n) e
+  where
+    by-case : (b : Bool) → Apart c cs → (distinct cs ≡ true → firstOr cs made ≡ Refused n → n ≢ 0)
+        → cond b (Refused (c .number)) (firstOr cs made) ≡ Refused n → n ≢ 0
+    by-case true off rest is = λ zero. eqb-false (c .number) 0 (off .not-zero) (let same : c .number ≡ n = cc in same ∙ zero)
+    by-case false off rest is = rest (off .later) is
+
+written-refused : (h : ContactHead) (v : Vels) (o : Outcome) (n : ℕ) → asWritten h v o ≡ Refused n → o ≡ Refused n
+unfolding asWritten
+written-refused h v (Refused m) n e = e
+written-refused h v (Done s) n e = absurd (not-both (sym e))
+
+pub refused-number : (c : Contact) (kind : ℕ) (v : Vels) (rows n : ℕ) → step c kind v rows ≡ Refused n → n ≢ 0
+unfolding step tried
+refused-number c kind v rows n e =
+    let seen = asRead (c .head) v in
+    named (conditions c kind seen rows) (routine kind c seen) n (distinct-numbers c kind seen rows) (written-refused (c .head) v (tried c kind seen rows) n e)
 
 -- its bodies passed 5
 pub bodies-passed : (c : Contact) (kind : ℕ) (v : Vels) (rows : ℕ) (s : ContactSolved) → step c kind v rows ≡ Done s → wrongBodies (c .head) rows ≡ false

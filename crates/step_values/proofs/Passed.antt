@@ -3,8 +3,11 @@ use Prim.Native.Nat.{ℕ}
 use mathlib.Core.Path.{_≡_, refl, sym, ap, _∙_}
 use mathlib.Core.Bool.{Bool, true, false, not, _&&_, _||_}
 use lib.Dec.{ltb}
+use lib.Ieee.{le}
 use Rattle.base_words.proofs.Said.{all-l, all-r, none-l, none-r, so}
 use Rattle.elem_leaves.specs.Finite.{finite}
+use Rattle.elem_leaves.specs.Floats.{_>f_, one, zero}
+use Rattle.elem_leaves.specs.Signs.{InUnit, NotBelow0}
 use Rattle.elem_velocity.specs.declared.SolverVel.{SolverVel}
 use Rattle.base_order.specs.OneByOne.{any}
 use Rattle.base_places.specs.declared.Cell.{Cell}
@@ -12,7 +15,7 @@ use Rattle.base_places.specs.declared.Cell.the-variants.{NormalImpulse, Tangent
 use Rattle.step_contact.specs.Cells.{inCell}
 use Rattle.step_kinds.proofs.Keeps.{same-head, stored-point}
 use Rattle.step_kinds.proofs.Stored.{unstored}
-use Rattle.step_kinds.proofs.Places.{Place, at-a, at-b, number, point}
+use Rattle.step_contact.specs.Places.{Place, at-a, at-b, load, number, point}
 use Rattle.step_kinds.specs.Table.{stores}
 use Rattle.step_kinds.specs.Stored.{stored, storedAt}
 use Rattle.step_contact.specs.Contact.{isFloor}
@@ -20,7 +23,7 @@ use Rattle.step_contact.specs.declared.Contact.{Contact}
 use Rattle.step_contact.specs.declared.ContactHead.{ContactHead}
 use Rattle.step_contact.specs.declared.ContactPoint.{ContactPoint}
 use Rattle.step_kinds.specs.declared.ContactSolved.{ContactSolved}
-use Rattle.step_values.specs.Values.{belowCount, finiteHead, finiteNormal, finitePoint, finiteTangent, finiteVel, lostCell, lostImpulse, lostVel, notFinite, somePoint, unwritable}
+use Rattle.step_values.specs.Values.{below0, belowCount, finiteHead, finiteNormal, finitePoint, finiteTangent, finiteVel, floorMoves, headOut, lostCell, lostImpulse, lostVel, notFinite, outOfRange, pointOut, somePoint, unwritable}
 
 -- a test that holds at no point below count
 module _ (test : ContactPoint → Bool) (c : Contact) where
@@ -118,3 +121,24 @@ module _ (kind : ℕ) (c : Contact) (s : ContactSolved) (is-stored : s .contact 
       let old : ltb (number x) (c .head .count) ≡ true = rw (← count) below in
       tame kind (point x c) (point x d) (stored-point (stores kind) c d is-stored x old)
       (not-at (lostImpulse kind) d (points-kept kind s passed) x below) (point-finite c found-finite x old)
+
+-- 9: a point in range has an impulse that is not below 0 and its cfm in (0, 1]
+pub in-range : (h : ContactHead) (p : ContactPoint) → pointOut h p ≡ false → NotBelow0 (p .«normal_part» .impulse) × InUnit (p .«normal_part» .«cfm_factor»)
+unfolding pointOut
+in-range h p e =
+    let n = p .«normal_part» in
+    let t = p .«tangent_part» in
+    let rs = below0 (n .r) || below0 (t .r) in
+    let i = below0 (n .impulse) in
+    let cfm = (n .«cfm_factor» >f zero) && le (n .«cfm_factor») one in
+    let f1 = floorMoves (h .body1) (n .«ii_torque_dir1») (t .«ii_torque_dir1») in
+    let f2 = floorMoves (h .body2) (n .«ii_torque_dir2») (t .«ii_torque_dir2») in
+    let first = none-l (rs || i || not cfm) f1 (none-l (rs || i || not cfm || f1) f2 e) in
+    (none-r rs i (none-l (rs || i) (not cfm) first), so cfm (none-r (rs || i) (not cfm) first))
+
+-- so has every point below count
+pub points-in-range : (c : Contact) → outOfRange c ≡ false → (x : Place) → ltb (number x) (c .head .count) ≡ true
+    → NotBelow0 (load x c) × InUnit (point x c .«normal_part» .«cfm_factor»)
+unfolding outOfRange
+points-in-range c e x below =
+    in-range (c .head) (point x c) (not-at (pointOut (c .head)) c (none-r (headOut (c .head)) (somePoint (pointOut (c .head)) c) e) x below)

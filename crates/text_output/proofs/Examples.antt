@@ -8,7 +8,8 @@ use Rattle.base_order.specs.OneByOne.{answers, any, count, finish}
 use Rattle.elem_leaves.specs.Finite.{finite}
 use Rattle.elem_leaves.specs.Leaves.{dot, max0}
 use Rattle.elem_velocity.specs.Velocity.{dvel, moved, push, rest}
-use Rattle.elem_normal.specs.Normal.{normal, normalImpulse, normalMoved, normalWith}
+use Rattle.elem_impulse.specs.Point.{normalImpulse}
+use Rattle.elem_normal.specs.Normal.{normal, normalMoved, normalWith}
 use Rattle.step_kinds.specs.Kinds.{atPoint, normalAt, normalLeft, overPoints, turn}
 use Rattle.step_kinds.specs.Table.{kindOf, kinds, pointsFor, routine, stores}
 use Rattle.step_shape.specs.Shape.{kindAbove, pairOfOne, wrongBodies, wrongCount}

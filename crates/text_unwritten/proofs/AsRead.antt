@@ -14,10 +14,10 @@ use Rattle.text_output.specs.Answer.{called, floatsOf, lent, prints}
 use Rattle.text_unwritten.specs.AsRead.{BodiesAsRead, Unwritten}
 use Rattle.text_unwritten.proofs.Kept.{body-kept}
 use Rattle.text_unwritten.proofs.Prints.{prints-part}
-use Rattle.text_unwritten.proofs.Small.{bodies-small}
+use Rattle.text_unwritten.proofs.Small.{bits-small}
 
 -- floats as they were read are printed with the bits that were read
-prints-read : (bits : List ℕ) → Small (most Hex) bits → prints (floatsOf bits) bits ≡ bits
+pub prints-read : (bits : List ℕ) → Small (most Hex) bits → prints (floatsOf bits) bits ≡ bits
 unfolding prints floatsOf
 prints-read [] h = refl
 prints-read (b ∷ bits) h = ap₂ (λ (n : ℕ) (l : List ℕ). n ∷ l) (digits.printed-as-read b (h .0)) (prints-read bits (h .1))
@@ -39,4 +39,4 @@ row-left t i unwritten = body-kept (lent t) (rows stepWidth (t .steps)) (called 
 pub bodies-as-read : BodiesAsRead
 unfolding bLine
 bodies-as-read s line n t e i in-table unwritten =
-    rw (row-read (called t .tables .bodies) (t .bodies) i (bodies-small s line n t e) (row-left t i unwritten))
+    rw (row-read (called t .tables .bodies) (t .bodies) i (bits-small s line n t e .bodies) (row-left t i unwritten))

@@ -18,17 +18,8 @@ use Rattle.list_sharing.proofs.Locality.{frame, same-shape}
 use Rattle.list_sharing.proofs.Own.{body-own}
 use Rattle.call_rules.specs.Call.{Ended, Lent, nothingDone}
 use Rattle.call_rules.specs.Demands.{Demand1, Demand2, before, numberOf}
+use Rattle.call_rules.proofs.Before.{before-more, before-none}
 use Rattle.call_rules.proofs.Demands.{demand1, in-list}
-
--- the tables before the first step, and before the next one
-before-none : (lent : Lent) → before lent 0 ≡ lent .tables
-unfolding before
-before-none lent = rw (first-none (lent .steps)) (finish-none stepOn (lent .tables))
-
-before-more : (lent : Lent) (n : ℕ) → n < rows stepWidth (lent .steps) → before lent (suc n) ≡ stepOn (stepAt (lent .steps) n) (before lent n) .after
-unfolding before
-before-more lent n within =
-    rw (first-more (lent .steps) n within) (finish-snoc stepOn (firstSteps (lent .steps) n) (stepAt (lent .steps) n) (lent .tables))
 
 -- a step that does not name body i, by the tables as lent, leaves its row, on all tables of their shape
 step-keeps : (s : Step) (i : ℕ) (lent now : Tables) → shape now ≡ shape lent → (Names lent s i → ⊥)

@@ -4,3 +4,5 @@ pub mod Kept
 pub mod AsLong
 pub mod Loads
 pub mod AsRead
+pub mod Signs
+pub mod Pushing

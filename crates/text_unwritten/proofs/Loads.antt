@@ -9,6 +9,7 @@ use Rattle.base_places.specs.Places.{floatsWidth, numbersWidth, place, pointPla
 use Rattle.base_places.proofs.Fits.{cell-fits}
 use Rattle.base_places.specs.declared.Cell.{Cell}
 use Rattle.step_contact.specs.Cells.{inCell}
+use Rattle.step_contact.specs.Places.{placeOf, point}
 use Rattle.base_rows.specs.Rows.{part, row, rows}
 use Rattle.base_rows.proofs.Laws.{row-fits}
 use Rattle.base_rows.proofs.Parts.{length-part, part-at}
@@ -19,12 +20,12 @@ use Rattle.text_prefix.proofs.Prefix.{tables-hold}
 use Rattle.text_output.specs.Answer.{called, prints}
 use Rattle.text_write.specs.Lines.{line}
 use Rattle.text_rows.specs.Tables.{iLine, loads}
-use Rattle.text_unwritten.specs.Loads.{LoadsAreImpulses, LoadsLine, pointAt}
+use Rattle.text_unwritten.specs.Loads.{LoadsAreImpulses, LoadsLine}
 use Rattle.text_unwritten.proofs.AsLong.{called-as-long}
 use Rattle.text_unwritten.proofs.Prints.{prints-at, prints-part}
 
 -- a point's floats among a contact's
-point-of : (numbers : List ℕ) (l : List Float) (p : ℕ) → p < 2 → pointAt p (contactOf numbers l) ≡ pointOf (part (pointPlace p) pointWidth l)
+point-of : (numbers : List ℕ) (l : List Float) (p : ℕ) → p < 2 → point (placeOf p) (contactOf numbers l) ≡ pointOf (part (pointPlace p) pointWidth l)
 point-of numbers l zero h = its-points numbers l .0
 point-of numbers l (suc zero) h = its-points numbers l .1
 point-of numbers l (suc (suc p)) h = absurd (omega arith)
@@ -37,7 +38,7 @@ each-same f g h (c ∷ l) = ap₂ (λ (n : ℕ) (m : List ℕ). n ∷ m) (h c) (
 module _ (numbers : List ℕ) (floats : List Float) (kept : List ℕ) (k p : ℕ) (as-long : length kept ≡ length floats)
     (has-numbers : k < rows numbersWidth numbers) (has-floats : k < rows floatsWidth floats) (of-two : p < 2) where
   -- what is printed at place i of a contact's floats, where x stands there
-  row-printed : (i : ℕ) → i < floatsWidth → {x : Float} → x ≡ getD (row floatsWidth k floats) i nan
+  pub row-printed : (i : ℕ) → i < floatsWidth → {x : Float} → x ≡ getD (row floatsWidth k floats) i nan
       → getD (row floatsWidth k (prints floats kept)) i 0 ≡ printed x (getD (row floatsWidth k kept) i 0)
   row-printed i h e =
       let fits : k * floatsWidth + floatsWidth ≤ length floats = row-fits floatsWidth k (λ l. l) floats has-floats in
@@ -46,9 +47,9 @@ module _ (numbers : List ℕ) (floats : List Float) (kept : List ℕ) (k p : ℕ
       (rw (length-part (k * floatsWidth) floatsWidth kept (omega arith)) h)
       ∙ ap (λ (y : Float). printed y (getD (row floatsWidth k kept) i 0)) (sym e)
 
-  cell-is : (c : Cell) → inCell c (pointAt p (contactAt numbers floats k)) ≡ getD (row floatsWidth k floats) (pointPlace p + place c) nan
+  pub cell-is : (c : Cell) → inCell c (point (placeOf p) (contactAt numbers floats k)) ≡ getD (row floatsWidth k floats) (pointPlace p + place c) nan
   cell-is c =
-      ap (λ q. inCell c (pointAt p q)) (contact-there numbers floats k has-numbers has-floats)
+      ap (λ q. inCell c (point (placeOf p) q)) (contact-there numbers floats k has-numbers has-floats)
       ∙ ap (inCell c) (point-of (row numbersWidth k numbers) (row floatsWidth k floats) p of-two)
       ∙ cell-read c (part (pointPlace p) pointWidth (row floatsWidth k floats))
       ∙ part-at (pointPlace p) pointWidth (row floatsWidth k floats) (place c) nan (cell-fits c)

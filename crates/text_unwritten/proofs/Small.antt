@@ -1,4 +1,4 @@
--- The bits of bodies that a text says fit in 32 bits. Assumes nothing.
+-- The bits that a text says, of bodies and of contacts, fit in 32 bits. Assumes nothing.
 use Prim.Native.Nat.{ℕ, zero, suc, _≤_}
 use mathlib.Core.Bool.{Bool, true, false, cond}
 use mathlib.Core.List.{List, [], _∷_, _++_}
@@ -61,9 +61,13 @@ says-small : (l : Letter) (line : List ℕ) → SmallValues (says l line)
 unfolding says values
 says-small l line = then-small (asked Hex l) (takes Decimal [] (asked Decimal l) (afterLetter (fields line)))
 
--- what has been read with a line
+-- what has been read
+pub record SmallBits (t : Night) : Type 0 where
+  pub bodies : Small (most Hex) (t .bodies)
+  pub floats : Small (most Hex) (t .floats)
+
 abbrev SmallCame : LineCame → Type 0
-SmallCame (good t) = Small (most Hex) (t .bodies)
+SmallCame (good t) = SmallBits t
 SmallCame (bad reason) = Unit
 
 -- a test may make the line bad
@@ -71,12 +75,15 @@ or-bad : (test : Bool) (reason : ℕ) (x : LineCame) → SmallCame x → SmallCa
 or-bad true reason x h = tt
 or-bad false reason x h = h
 
-module _ (t : Night) (before : Small (most Hex) (t .bodies)) where
+module _ (t : Night) (before : SmallBits t) where
   filled-small : (l : Letter) (place : Place) (v : Values) → SmallValues v → SmallCame (filled ofProgram l place t v)
   unfolding filled put
   filled-small l place (Says numbers bits) h =
       or-bad (full ofProgram l t) 5 (good (put l place numbers bits t))
-      (both-small (most Hex) (t .bodies) (take (adds l .bodies) bits) before (take-small (most Hex) (adds l .bodies) bits h))
+      (record {
+        bodies = both-small (most Hex) (t .bodies) (take (adds l .bodies) bits) (before .bodies) (take-small (most Hex) (adds l .bodies) bits h);
+        floats = both-small (most Hex) (t .floats) (take (adds l .floats) bits) (before .floats) (take-small (most Hex) (adds l .floats) bits h);
+      })
   filled-small l place Nothing h = tt
 
   ordered-small : (l : Letter) (next : Next) (v : Values) → SmallValues v → SmallCame (ordered ofProgram l next t v)
@@ -95,7 +102,7 @@ module _ (t : Night) (before : Small (most Hex) (t .bodies)) where
 
 -- what the lines of a text said
 abbrev SmallText : Text → Type 0
-SmallText (reading line n t) = Small (most Hex) (t .bodies)
+SmallText (reading line n t) = SmallBits t
 SmallText (refused n reason) = Unit
 
 -- a test decides between two texts
@@ -138,8 +145,8 @@ closed-small (refused n reason) h = tt
 
 text-small : (s : List ℕ) → SmallText (textOf ofProgram s)
 unfolding textOf blank
-text-small s = closed-small (feeds ofProgram (reading [] 1 blank) s) (feeds-small s (reading [] 1 blank) tt)
+text-small s = closed-small (feeds ofProgram (reading [] 1 blank) s) (feeds-small s (reading [] 1 blank) (record { bodies = tt; floats = tt }))
 
--- the bits of the bodies of a text that was read to its end
-pub bodies-small : (s line : List ℕ) (n : ℕ) (t : Night) → textOf ofProgram s ≡ reading line n t → Small (most Hex) (t .bodies)
-bodies-small s line n t e = rw e at (text-small s)
+-- of a text that was read to its end
+pub bits-small : (s line : List ℕ) (n : ℕ) (t : Night) → textOf ofProgram s ≡ reading line n t → SmallBits t
+bits-small s line n t e = rw e at (text-small s)

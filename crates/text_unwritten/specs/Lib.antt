@@ -1,2 +1,3 @@
 pub mod AsRead
 pub mod Loads
+pub mod Pushing

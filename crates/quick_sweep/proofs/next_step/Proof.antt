@@ -21,12 +21,6 @@ step-on-requires c κs = ((c .before .before .its-flaw .ensures))
 put-answer-requires : tie.Need-put-answer-requires
 put-answer-requires c κs = search needs
 
-contact-at-requires : tie.Need-contact-at-requires
-contact-at-requires c κs = search needs
-
-pressing-requires : tie.Need-pressing-requires
-pressing-requires c κs = search needs
-
 raise-requires : tie.Need-raise-requires
 raise-requires c κs = search needs
 
@@ -45,15 +39,13 @@ same-length-4 c = search needs
 returns : tie.Need-returns
 returns c =
     let put = c .before .before in
-    let pressed = put .before .before in
-    let read = pressed .before in
-    let told = read .before .before .before .before in
+    let told = put .before .before .before .before in
     let done = told .before .before .before .before .before .before in
     let found = done .before .before .before in
     let given = found .before .before .before .before .before in
     let start = given .before .before .before .before .before .before .before in (
       step-done _ _ _ _ (given .step-at .ensures) (done .step-on .ensures) (told .put-answer .ensures),
-      flags-right _ _ _ (start .pre) (found .its-flaw .ensures) (done .step-on .ensures) (read .contact-at .ensures) (pressed .pressing .ensures) (put .raise .ensures),
+      flags-right _ _ _ (start .pre) (found .its-flaw .ensures) (done .step-on .ensures) (put .raise .ensures),
     )
 
 pub next-step-spec : {M : Type 1} → statement M
@@ -65,8 +57,6 @@ next-step-spec =
     its-flaw-requires
     step-on-requires
     put-answer-requires
-    contact-at-requires
-    pressing-requires
     raise-requires
     same-length
     same-length-2

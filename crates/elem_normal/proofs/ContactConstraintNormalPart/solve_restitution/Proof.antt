@@ -1,4 +1,4 @@
--- `elem_normal::ContactConstraintNormalPart::solve_restitution` meets its contract. By what dvel, the impulse and the move ensure. Assumes nothing.
+-- `elem_normal::ContactConstraintNormalPart::solve_restitution` meets its contract. By what dvel, the total, the impulse and the move ensure. Assumes nothing.
 use Rattle.elem_normal.proofs.Steps.{bounced}
 use borrow.Author.Needs.{needs}
 use Rattle.elem_normal.proofs.ContactConstraintNormalPart.solve_restitution.Statement.{
@@ -8,6 +8,9 @@ use Rattle.elem_normal.proofs.ContactConstraintNormalPart.solve_restitu
 
 dvel-requires : tie.Need-dvel-requires
 dvel-requires c κs = search needs
+
+total-impulse-requires : tie.Need-total-impulse-requires
+total-impulse-requires c κs = search needs
 
 restitution-impulse-requires : tie.Need-restitution-impulse-requires
 restitution-impulse-requires c κs = search needs
@@ -20,4 +23,4 @@ returns c = search bounced
 
 pub solve-restitution-spec : {M : Type 1} → statement M
 solve-restitution-spec =
-    tie.close (tie.spec dvel-requires restitution-impulse-requires moved-requires returns)
+    tie.close (tie.spec dvel-requires total-impulse-requires restitution-impulse-requires moved-requires returns)

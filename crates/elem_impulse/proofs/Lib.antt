@@ -1,0 +1,4 @@
+pub mod First
+pub mod Rows
+pub mod Steps
+pub mod Pushing

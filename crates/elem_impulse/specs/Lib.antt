@@ -1,0 +1,4 @@
+pub mod Point
+pub mod Block
+pub mod Pair
+pub mod Pushing

@@ -1,0 +1,151 @@
+-- The statements of specs/Pushing.antt: a step changes no contact but its own, and that one as the step on copies does. Assumes nothing.
+use Prim.Native.Nat.{ℕ, _<_}
+use native.Mathlib.Decide.{ℕ-discrete}
+use native.Mathlib.Omega.{arith}
+use mathlib.Core.Bool.{Bool, true, false}
+use mathlib.Core.List.{List, [], _∷_}
+use mathlib.Core.Logic.{_≢_, _⊎_, inl, inr}
+use mathlib.Core.Path.{_≡_, refl, sym, ap, _∙_}
+use lib.Dec.{ltb}
+use lib.Ieee.{Float}
+use Rattle.base_words.specs.Choice.{if_then_else_}
+use Rattle.base_places.specs.Places.{bodyWidth, floatsWidth}
+use Rattle.base_rows.specs.Rows.{readRow, row, rows}
+use Rattle.base_order.specs.OneByOne.{finish}
+use Rattle.elem_leaves.specs.Signs.{AtLeast0, NotBelow0}
+use Rattle.elem_leaves.proofs.Signs.{not-below}
+use Rattle.elem_impulse.specs.Pushing.{Pushes}
+use Rattle.elem_impulse.proofs.Pushing.{carried, pushed-on}
+use Rattle.step_contact.specs.Places.{Place, load, number}
+use Rattle.step_contact.specs.declared.Contact.{Contact}
+use Rattle.step_kinds.specs.declared.ContactSolved.{ContactSolved}
+use Rattle.step_rules.specs.Step.{step}
+use Rattle.step_rules.proofs.Chain.{not-both}
+use Rattle.step_rules.specs.declared.Outcome.{Outcome}
+use Rattle.step_rules.specs.declared.Outcome.the-variants.{Done, Refused}
+use Rattle.step_promises.specs.Pushing.{AllPush}
+use Rattle.step_promises.proofs.Promises.{refused-number, same-head-kept}
+use Rattle.step_promises.proofs.Pushing.{done-loads, done-pushes}
+use Rattle.list_tables.specs.Tables.{contactAt}
+use Rattle.list_tables.specs.declared.Step.{Step}
+use Rattle.list_rules.specs.Sweep.{Tables, answered, ifThere, itsContact, outcome, stepOn, velsAt}
+use Rattle.list_rules.proofs.Done.{done-there, its-contact}
+use Rattle.list_rules.proofs.Rows.{after-floats, after-numbers, contact-stays, floats-as-many}
+use Rattle.list_readback.proofs.ReadBack.{contact-read-back}
+use Rattle.list_pushing.specs.Pushing.{AllLoads, ListsNeverPull, StaySo, loadAt}
+
+-- what may become of a contact
+pub record Changed (old new : Contact) : Type 0 where
+  pub head : new .head ≡ old .head
+  pub loads : AllPush old new
+
+-- one step
+module _ (s : Step) (t : Tables) where
+  abbrev after : Tables
+  after = stepOn s t .after
+
+  as-many : rows floatsWidth (after .floats) ≡ rows floatsWidth (t .floats)
+  as-many = ap (λ l. rows floatsWidth l) (after-floats s t) ∙ floats-as-many s (outcome s t) (t .floats)
+
+  -- a contact that the step does not write reads as it did
+  same-contact : (k : ℕ) → ((d : ContactSolved) → outcome s t ≡ Done d → k ≢ s .contact)
+      → contactAt (after .numbers) (after .floats) k ≡ contactAt (t .numbers) (t .floats) k
+  unfolding contactAt readRow
+  same-contact k other =
+      let same : row floatsWidth k (after .floats) ≡ row floatsWidth k (t .floats) =
+      ap (λ l. row floatsWidth k l) (after-floats s t) ∙ contact-stays s (outcome s t) (t .floats) k other
+      in
+      rw (after-numbers s t, as-many, same)
+
+  -- its own contact, where it is done
+  module _ (d : ContactSolved) (done : outcome s t ≡ Done d) where
+    own-after : contactAt (after .numbers) (after .floats) (s .contact) ≡ d .contact
+    own-after = sym (its-contact s after) ∙ contact-read-back s t d done
+
+    own-changed : Changed (contactAt (t .numbers) (t .floats) (s .contact)) (contactAt (after .numbers) (after .floats) (s .contact))
+    own-changed =
+        let c = itsContact s t in
+        let v = velsAt (t .bodies) (c .head) in
+        let many = rows bodyWidth (t .bodies) in
+        let copies = done-there s t d done .1 in
+        rw (own-after, ← its-contact s t) (record { head = same-head-kept c (s .kind) v many d copies; loads = done-pushes c (s .kind) v many d copies })
+
+    own-loads : (x : Place) → number x < itsContact s t .head .count → AtLeast0 (loadAt (s .contact) x after)
+    own-loads x below =
+        let c = itsContact s t in
+        rw own-after (done-loads c (s .kind) (velsAt (t .bodies) (c .head)) (rows bodyWidth (t .bodies)) d (done-there s t d done .1) x below)
+
+  pub step-changed : (k : ℕ) → Changed (contactAt (t .numbers) (t .floats) k) (contactAt (after .numbers) (after .floats) k)
+  step-changed k = by-outcome (outcome s t) refl
+    where
+      same : ((d : ContactSolved) → outcome s t ≡ Done d → k ≢ s .contact) → Changed (contactAt (t .numbers) (t .floats) k) (contactAt (after .numbers) (after .floats) k)
+      same other = rw (same-contact k other) (record { head = refl; loads = λ x. inl refl })
+
+      by-place : (d : ContactSolved) → outcome s t ≡ Done d → Dec (k ≡ s .contact)
+          → Changed (contactAt (t .numbers) (t .floats) k) (contactAt (after .numbers) (after .floats) k)
+      by-place d done (yes own) = rw own (own-changed d done)
+      by-place d done (no other) = same (λ _ _. other)
+
+      by-outcome : (o : Outcome) → outcome s t ≡ o → Changed (contactAt (t .numbers) (t .floats) k) (contactAt (after .numbers) (after .floats) k)
+      by-outcome (Refused n) e = same (λ d done. not-both (sym e ∙ done))
+      by-outcome (Done d) e = by-place d e (ℕ-discrete k (s .contact))
+
+-- a list
+lists-push : (steps : List Step) (t : Tables) (k : ℕ) (x : Place) → Pushes (loadAt k x t) (loadAt k x (finish stepOn steps t))
+unfolding finish
+lists-push [] t k x = inl refl
+lists-push (s ∷ ss) t k x = pushed-on (step-changed s t k .loads x) (lists-push ss (stepOn s t .after) k x)
+
+-- what every number of 0 or above has
+module _ (P : Float → Type 0) (wide : (x : Float) → AtLeast0 x → P x) where
+  pub step-stays : (s : Step) (t : Tables) → AllLoads P t → AllLoads P (stepOn s t .after)
+  step-stays s t old k there x = carried P wide (step-changed s t k .loads x) (old k (rw (← as-many s t) there) x)
+
+  stay-so : StaySo P
+  unfolding finish
+  stay-so [] t old = old
+  stay-so (s ∷ ss) t old = stay-so ss (stepOn s t .after) (step-stays s t old)
+
+-- a refused step has a number
+refused-there : (contacts : ℕ) (s : Step) (o : Outcome) (n : ℕ) → ((m : ℕ) → o ≡ Refused m → m ≢ 0) → ifThere contacts s o ≡ Refused n → n ≢ 0
+unfolding ifThere
+refused-there contacts s o n numbered = by-case (ltb (s .contact) contacts)
+  where
+    by-case : (b : Bool) → (if b then o else Refused 2) ≡ Refused n → n ≢ 0
+    by-case true e = numbered n e
+    by-case false e = λ zero. let two : _≡_ {A = ℕ} 2 n = cc in absurd (omega arith)
+
+not-zero : (s : Step) (t : Tables) (n : ℕ) → outcome s t ≡ Refused n → n ≢ 0
+unfolding outcome
+not-zero s t n =
+    let c = itsContact s t in
+    let v = velsAt (t .bodies) (c .head) in
+    let many = rows bodyWidth (t .bodies) in
+    refused-there (rows floatsWidth (t .floats)) s (step c (s .kind) v many) n (λ m. refused-number c (s .kind) v many m)
+
+-- a step that was answered 0 was done
+done-of : (s : Step) (t : Tables) → stepOn s t .answer .number ≡ 0 → (d : ContactSolved) × (outcome s t ≡ Done d)
+unfolding stepOn answered
+done-of s t zero = by-case (outcome s t) refl
+  where
+    by-case : (o : Outcome) → outcome s t ≡ o → (d : ContactSolved) × (outcome s t ≡ Done d)
+    by-case (Refused n) e = absurd (not-zero s t n e (rw e at zero))
+    by-case (Done d) e = (d, e)
+
+-- and its loads in use are 0 or above
+pub loads-after : (s : Step) (t : Tables) → stepOn s t .answer .number ≡ 0 → (x : Place) → number x < itsContact s t .head .count
+    → AtLeast0 (loadAt (s .contact) x (stepOn s t .after))
+loads-after s t zero x below = let was = done-of s t zero in own-loads s t (was .0) (was .1) x below
+
+after-done : (s : Step) (steps : List Step) (t : Tables) → stepOn s t .answer .number ≡ 0 → (x : Place) → number x < itsContact s t .head .count
+    → AtLeast0 (loadAt (s .contact) x (finish stepOn steps (stepOn s t .after)))
+after-done s steps t zero x below =
+    carried AtLeast0 (λ n h. h) (lists-push steps (stepOn s t .after) (s .contact) x) (loads-after s t zero x below)
+
+pub lists-never-pull : ListsNeverPull
+lists-never-pull = record {
+  not-below = stay-so NotBelow0 not-below;
+  at-least = stay-so AtLeast0 (λ x h. h);
+  each-load = lists-push;
+  after-done = after-done;
+}
