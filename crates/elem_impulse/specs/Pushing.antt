@@ -63,11 +63,14 @@ unfoldable pub FirstPassing : List Candidate → PairChoice → PairChoice → T
 FirstPassing [] none-passed r = r ≡ none-passed
 FirstPassing (c ∷ cs) none-passed r = ((c .passes ≡ true) × (r ≡ c .choice)) ⊎ ((c .passes ≡ false) × FirstPassing cs none-passed r)
 
--- "with flag above 0.5 they are exactly the first candidate that passes its tests, or the previous pair if none does": that, and nothing else
+-- "with flag above 0.5 they are exactly the first candidate that passes its tests, or the previous pair if none does": that, and nothing else. The
+-- candidates and their tests are those of Block.antt
+abbrev pub IsFirst : Given → PairChoice → Type 0
+IsFirst p = FirstPassing (candidates (system (p .dvel) (p .prev) (p .ra) (p .rb) (p .k12) (p .cfm))) (kept (p .prev))
+
 pub record ExactlyFirst (p : Given) : Type 0 where
-  pub is-first : FirstPassing (candidates (system (p .dvel) (p .prev) (p .ra) (p .rb) (p .k12) (p .cfm))) (kept (p .prev)) (chosen p)
-  pub no-other : (r : PairChoice) → FirstPassing (candidates (system (p .dvel) (p .prev) (p .ra) (p .rb) (p .k12) (p .cfm))) (kept (p .prev)) r
-      → r ≡ chosen p
+  pub is-first : IsFirst p (chosen p)
+  pub no-other : (r : PairChoice) → IsFirst p r → r ≡ chosen p
 
 abbrev pub FlagAboveHalf : Type 0
 FlagAboveHalf = (p : Given) → (p .flag >f half) ≡ true → ExactlyFirst p

@@ -1,16 +1,15 @@
 -- The statements of specs/Pushing.antt: a step changes no contact but its own, and that one as the step on copies does. Assumes nothing.
 use Prim.Native.Nat.{ℕ, _<_}
-use native.Mathlib.Decide.{ℕ-discrete}
 use native.Mathlib.Omega.{arith}
 use mathlib.Core.Bool.{Bool, true, false}
 use mathlib.Core.List.{List, [], _∷_}
 use mathlib.Core.Logic.{_≢_, _⊎_, inl, inr}
-use mathlib.Core.Path.{_≡_, refl, sym, ap, _∙_}
+use mathlib.Core.Path.{_≡_, refl, ap, _∙_}
 use lib.Dec.{ltb}
 use lib.Ieee.{Float}
 use Rattle.base_words.specs.Choice.{if_then_else_}
 use Rattle.base_places.specs.Places.{bodyWidth, floatsWidth}
-use Rattle.base_rows.specs.Rows.{readRow, row, rows}
+use Rattle.base_rows.specs.Rows.{rows}
 use Rattle.base_order.specs.OneByOne.{finish}
 use Rattle.elem_leaves.specs.Signs.{AtLeast0, NotBelow0}
 use Rattle.elem_leaves.proofs.Signs.{not-below}
@@ -20,7 +19,6 @@ use Rattle.step_contact.specs.Places.{Place, load, number}
 use Rattle.step_contact.specs.declared.Contact.{Contact}
 use Rattle.step_kinds.specs.declared.ContactSolved.{ContactSolved}
 use Rattle.step_rules.specs.Step.{step}
-use Rattle.step_rules.proofs.Chain.{not-both}
 use Rattle.step_rules.specs.declared.Outcome.{Outcome}
 use Rattle.step_rules.specs.declared.Outcome.the-variants.{Done, Refused}
 use Rattle.step_promises.specs.Pushing.{AllPush}
@@ -30,8 +28,9 @@ use Rattle.list_tables.specs.Tables.{contactAt}
 use Rattle.list_tables.specs.declared.Step.{Step}
 use Rattle.list_rules.specs.Sweep.{Tables, answered, ifThere, itsContact, outcome, stepOn, velsAt}
 use Rattle.list_rules.proofs.Done.{done-there, its-contact}
-use Rattle.list_rules.proofs.Rows.{after-floats, after-numbers, contact-stays, floats-as-many}
-use Rattle.list_readback.proofs.ReadBack.{contact-read-back}
+use Rattle.list_rules.proofs.Rows.{after-floats, floats-as-many}
+use Rattle.list_readback.specs.ReadBack.{Own}
+use Rattle.list_readback.proofs.ReadBack.{contact-read-back, each-contact}
 use Rattle.list_pushing.specs.Pushing.{AllLoads, ListsNeverPull, StaySo, loadAt}
 
 -- what may become of a contact
@@ -39,56 +38,39 @@ pub record Changed (old new : Contact) : Type 0 where
   pub head : new .head ≡ old .head
   pub loads : AllPush old new
 
--- one step
+-- one step: it changes no contact but its own
 module _ (s : Step) (t : Tables) where
   abbrev after : Tables
   after = stepOn s t .after
 
+  abbrev old : ℕ → Contact
+  old k = contactAt (t .numbers) (t .floats) k
+
+  abbrev new : ℕ → Contact
+  new k = contactAt (after .numbers) (after .floats) k
+
   as-many : rows floatsWidth (after .floats) ≡ rows floatsWidth (t .floats)
   as-many = ap (λ l. rows floatsWidth l) (after-floats s t) ∙ floats-as-many s (outcome s t) (t .floats)
 
-  -- a contact that the step does not write reads as it did
-  same-contact : (k : ℕ) → ((d : ContactSolved) → outcome s t ≡ Done d → k ≢ s .contact)
-      → contactAt (after .numbers) (after .floats) k ≡ contactAt (t .numbers) (t .floats) k
-  unfolding contactAt readRow
-  same-contact k other =
-      let same : row floatsWidth k (after .floats) ≡ row floatsWidth k (t .floats) =
-      ap (λ l. row floatsWidth k l) (after-floats s t) ∙ contact-stays s (outcome s t) (t .floats) k other
-      in
-      rw (after-numbers s t, as-many, same)
-
-  -- its own contact, where it is done
-  module _ (d : ContactSolved) (done : outcome s t ≡ Done d) where
-    own-after : contactAt (after .numbers) (after .floats) (s .contact) ≡ d .contact
-    own-after = sym (its-contact s after) ∙ contact-read-back s t d done
-
-    own-changed : Changed (contactAt (t .numbers) (t .floats) (s .contact)) (contactAt (after .numbers) (after .floats) (s .contact))
-    own-changed =
-        let c = itsContact s t in
-        let v = velsAt (t .bodies) (c .head) in
-        let many = rows bodyWidth (t .bodies) in
-        let copies = done-there s t d done .1 in
-        rw (own-after, ← its-contact s t) (record { head = same-head-kept c (s .kind) v many d copies; loads = done-pushes c (s .kind) v many d copies })
-
-    own-loads : (x : Place) → number x < itsContact s t .head .count → AtLeast0 (loadAt (s .contact) x after)
-    own-loads x below =
-        let c = itsContact s t in
-        rw own-after (done-loads c (s .kind) (velsAt (t .bodies) (c .head)) (rows bodyWidth (t .bodies)) d (done-there s t d done .1) x below)
-
-  pub step-changed : (k : ℕ) → Changed (contactAt (t .numbers) (t .floats) k) (contactAt (after .numbers) (after .floats) k)
-  step-changed k = by-outcome (outcome s t) refl
+  pub step-changed : (k : ℕ) → Changed (old k) (new k)
+  step-changed k = by-case (each-contact s t k)
     where
-      same : ((d : ContactSolved) → outcome s t ≡ Done d → k ≢ s .contact) → Changed (contactAt (t .numbers) (t .floats) k) (contactAt (after .numbers) (after .floats) k)
-      same other = rw (same-contact k other) (record { head = refl; loads = λ x. inl refl })
+      by-case : (new k ≡ old k) ⊎ Own s t k (new k) → Changed (old k) (new k)
+      by-case (inl same) = rw same (record { head = refl; loads = λ x. inl refl })
+      by-case (inr mine) =
+          let c = itsContact s t in
+          let v = velsAt (t .bodies) (c .head) in
+          let many = rows bodyWidth (t .bodies) in
+          let copies = done-there s t (mine .gave) (mine .done) .1 in
+          rw (mine .is, mine .own, ← its-contact s t)
+          (record { head = same-head-kept c (s .kind) v many (mine .gave) copies; loads = done-pushes c (s .kind) v many (mine .gave) copies })
 
-      by-place : (d : ContactSolved) → outcome s t ≡ Done d → Dec (k ≡ s .contact)
-          → Changed (contactAt (t .numbers) (t .floats) k) (contactAt (after .numbers) (after .floats) k)
-      by-place d done (yes own) = rw own (own-changed d done)
-      by-place d done (no other) = same (λ _ _. other)
-
-      by-outcome : (o : Outcome) → outcome s t ≡ o → Changed (contactAt (t .numbers) (t .floats) k) (contactAt (after .numbers) (after .floats) k)
-      by-outcome (Refused n) e = same (λ d done. not-both (sym e ∙ done))
-      by-outcome (Done d) e = by-place d e (ℕ-discrete k (s .contact))
+  -- where it is done, the loads in use are 0 or above
+  own-loads : (d : ContactSolved) → outcome s t ≡ Done d → (x : Place) → number x < itsContact s t .head .count → AtLeast0 (loadAt (s .contact) x after)
+  own-loads d done x below =
+      let c = itsContact s t in
+      rw (← its-contact s after, contact-read-back s t d done)
+      (done-loads c (s .kind) (velsAt (t .bodies) (c .head)) (rows bodyWidth (t .bodies)) d (done-there s t d done .1) x below)
 
 -- a list
 lists-push : (steps : List Step) (t : Tables) (k : ℕ) (x : Place) → Pushes (loadAt k x t) (loadAt k x (finish stepOn steps t))

@@ -1,9 +1,10 @@
 -- The statements of specs/ReadBack.antt. Assumes nothing.
 use Prim.Native.Nat.{ℕ, _*_, _<_}
 use native.Mathlib.Omega.{arith}
-use native.Mathlib.Decide.{decLt}
+use native.Mathlib.Decide.{decLt, ℕ-discrete}
 use mathlib.Core.Bool.{true, false}
 use mathlib.Core.List.{List}
+use mathlib.Core.Logic.{_≢_, _⊎_, inl, inr}
 use mathlib.Core.Path.{_≡_, refl, sym, _∙_, ap}
 use lib.Ieee.{Float}
 use Rattle.base_places.specs.Places.{bodyWidth, floatsWidth, numbersWidth}
@@ -14,12 +15,15 @@ use Rattle.step_contact.specs.declared.Contact.{Contact}
 use Rattle.step_contact.specs.declared.ContactHead.{ContactHead}
 use Rattle.step_kinds.specs.Table.{stores}
 use Rattle.step_kinds.specs.Stored.{stored}
+use Rattle.step_kinds.specs.declared.ContactSolved.{ContactSolved}
 use Rattle.step_shape.proofs.Bodies.{RightBodies, in-table, right-bodies}
 use Rattle.step_rules.specs.Step.{step}
-use Rattle.step_rules.specs.declared.Outcome.the-variants.{Done}
+use Rattle.step_rules.proofs.Chain.{not-both}
+use Rattle.step_rules.specs.declared.Outcome.{Outcome}
+use Rattle.step_rules.specs.declared.Outcome.the-variants.{Done, Refused}
 use Rattle.step_promises.specs.Promises.{FloorSides}
 use Rattle.step_promises.proofs.Promises.{bodies-passed, floor-kept, same-head-kept, untouched}
-use Rattle.base_rows.specs.Rows.{row, rows}
+use Rattle.base_rows.specs.Rows.{readRow, row, rows}
 use Rattle.base_rows.proofs.Laws.{row-fits}
 use Rattle.base_rows.proofs.Parts.{length-part}
 use Rattle.list_tables.specs.Tables.{contactAt, contactOf}
@@ -28,9 +32,11 @@ use Rattle.list_tables.proofs.Contacts.{no-numbers}
 use Rattle.list_cells.specs.Cells.{putImpulses, putVel}
 use Rattle.list_cells.proofs.Written.{bodies-as-long, floats-as-long, impulses-written}
 use Rattle.list_cells.proofs.Back.{contact-back, other-stays, own-back, zero-stays}
-use Rattle.list_rules.specs.Sweep.{itsContact, velsAt}
+use Rattle.list_tables.specs.declared.Step.{Step}
+use Rattle.list_rules.specs.Sweep.{Tables, itsContact, outcome, stepOn, velsAt}
 use Rattle.list_rules.proofs.Done.{bodies-after, contact-after, done-there, its-contact, vels-are, vels-of}
-use Rattle.list_readback.specs.ReadBack.{ContactReadBack, VelocitiesReadBack}
+use Rattle.list_rules.proofs.Rows.{after-floats, after-numbers, contact-stays, floats-as-many}
+use Rattle.list_readback.specs.ReadBack.{ContactReadBack, EachContact, Own, VelocitiesReadBack}
 
 module _ (numbers : List ℕ) (floats : List Float) (k kind : ℕ) (new : Contact) (there : k < rows floatsWidth floats)
     (head : new .head ≡ contactAt numbers floats k .head) where
@@ -67,6 +73,36 @@ contact-read-back s t d done =
     ∙ row-back (t .numbers) (t .floats) (s .contact) (s .kind) (d .contact) (copies .0) (head ∙ ap (λ (x : Contact). x .head) same)
     ∙ sym (ap (λ (x : Contact). stored (stores (s .kind)) x (d .contact)) same)
     ∙ sym (untouched c (s .kind) v (rows bodyWidth (t .bodies)) d (copies .1))
+
+-- every other contact reads as it did
+module _ (s : Step) (t : Tables) where
+  abbrev after : Tables
+  after = stepOn s t .after
+
+  other-contact : (k : ℕ) → ((d : ContactSolved) → outcome s t ≡ Done d → k ≢ s .contact)
+      → contactAt (after .numbers) (after .floats) k ≡ contactAt (t .numbers) (t .floats) k
+  unfolding contactAt readRow
+  other-contact k other =
+      let as-many = ap (λ l. rows floatsWidth l) (after-floats s t) ∙ floats-as-many s (outcome s t) (t .floats) in
+      let same = ap (λ l. row floatsWidth k l) (after-floats s t) ∙ contact-stays s (outcome s t) (t .floats) k other in
+      rw (after-numbers s t, as-many, same)
+
+pub each-contact : EachContact
+each-contact s t k = by-outcome (outcome s t) refl
+  where
+    Became : Type 0
+    Became =
+        (contactAt (stepOn s t .after .numbers) (stepOn s t .after .floats) k ≡ contactAt (t .numbers) (t .floats) k)
+        ⊎ Own s t k (contactAt (stepOn s t .after .numbers) (stepOn s t .after .floats) k)
+
+    by-place : (d : ContactSolved) → outcome s t ≡ Done d → Dec (k ≡ s .contact) → Became
+    by-place d e (yes same) =
+        inr (record { gave = d; done = e; own = same; is = rw same (sym (its-contact s (stepOn s t .after)) ∙ contact-read-back s t d e) })
+    by-place d e (no differ) = inl (other-contact s t k (λ _ _. differ))
+
+    by-outcome : (o : Outcome) → outcome s t ≡ o → Became
+    by-outcome (Refused n) e = inl (other-contact s t k (λ d done. not-both (sym e ∙ done)))
+    by-outcome (Done d) e = by-place d e (ℕ-discrete k (s .contact))
 
 -- the velocities of its bodies; the floor's is rest
 pub velocities-read-back : VelocitiesReadBack

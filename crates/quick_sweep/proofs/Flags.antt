@@ -4,19 +4,15 @@ use native.Mathlib.Nat.{le-of-suc-le-suc, not-suc-le-zero}
 use borrow.Author.Tests.{eqb-false, eqb-true}
 use mathlib.Core.Bool.{Bool, true, false}
 use mathlib.Core.List.{List, [], _∷_}
-use mathlib.Core.Logic.{_≢_}
+use mathlib.Core.Logic.{_≢_, _⊎_, inl, inr}
 use mathlib.Core.Path.{_≡_, refl, sym, ap, _∙_}
 use lib.Dec.{eqb}
 use lib.ListN.{getD, length, replicate, set}
-use Rattle.base_places.specs.Places.{bodyWidth, floatsWidth}
+use Rattle.base_places.specs.Places.{bodyWidth}
 use Rattle.base_words.specs.Choice.{if_then_else_}
 use Rattle.base_words.proofs.Pick.{never}
 use Rattle.step_contact.specs.declared.Contact.{Contact}
-use Rattle.step_kinds.specs.declared.ContactSolved.{ContactSolved}
-use Rattle.step_rules.proofs.Chain.{not-both}
-use Rattle.step_rules.specs.declared.Outcome.{Outcome}
-use Rattle.step_rules.specs.declared.Outcome.the-variants.{Done, Refused}
-use Rattle.base_rows.specs.Rows.{readRow, row, rows}
+use Rattle.base_rows.specs.Rows.{rows}
 use Rattle.list_tables.specs.Tables.{contactAt}
 use Rattle.list_tables.specs.declared.Step.{Step}
 use Rattle.list_cells.specs.declared.Answer.{Answer}
@@ -24,9 +20,10 @@ use Rattle.base_order.specs.OneByOne.{Stepped}
 use Rattle.quick_flaws.specs.Flaws.{flaw, vouched}
 use Rattle.quick_flaws.proofs.Stays.{stays-vouched}
 use Rattle.list_rules.specs.Sweep.{Tables, itsContact, outcome, stepOn, velsAt}
-use Rattle.list_rules.proofs.Done.{done-there, its-contact}
-use Rattle.list_rules.proofs.Rows.{after-bodies, after-floats, after-numbers, bodies-as-many, contact-stays, floats-as-many}
-use Rattle.list_readback.proofs.ReadBack.{contact-read-back}
+use Rattle.list_rules.proofs.Done.{done-there}
+use Rattle.list_rules.proofs.Rows.{after-bodies, bodies-as-many}
+use Rattle.list_readback.specs.ReadBack.{Own}
+use Rattle.list_readback.proofs.ReadBack.{each-contact}
 use Rattle.quick_sweep.specs.Flags.{Vouching, flagged, flawAt, raised, vouchedAt}
 
 -- a flag that was put is as it was put, where there is one
@@ -79,46 +76,28 @@ module _ (s : Step) (t : Tables) where
   as-many-bodies : rows bodyWidth (after .bodies) ≡ rows bodyWidth (t .bodies)
   as-many-bodies = ap (λ l. rows bodyWidth l) (after-bodies s t) ∙ bodies-as-many (itsContact s t .head) (outcome s t) (t .bodies)
 
-  as-many-floats : rows floatsWidth (after .floats) ≡ rows floatsWidth (t .floats)
-  as-many-floats = ap (λ l. rows floatsWidth l) (after-floats s t) ∙ floats-as-many s (outcome s t) (t .floats)
-
-  -- a contact whose row stays is vouched for as before
-  same-vouched : (k : ℕ) → row floatsWidth k (after .floats) ≡ row floatsWidth k (t .floats) → vouchedAt after k ≡ vouchedAt t k
-  unfolding contactAt readRow
-  same-vouched k same = rw (as-many-bodies, after-numbers s t, as-many-floats, same)
-
-  row-stays : (k : ℕ) → ((d : ContactSolved) → outcome s t ≡ Done d → k ≢ s .contact) → row floatsWidth k (after .floats) ≡ row floatsWidth k (t .floats)
-  row-stays k other = ap (λ l. row floatsWidth k l) (after-floats s t) ∙ contact-stays s (outcome s t) (t .floats) k other
-
-  -- its own contact: as it was, or with its new impulses
-  own-vouched : vouchedAt t (s .contact) ≡ true → vouchedAt after (s .contact) ≡ true
-  own-vouched was = by-case (outcome s t) refl
+  -- a contact that is vouched for stays so
+  vouched-stays : (k : ℕ) → vouchedAt t k ≡ true → vouchedAt after k ≡ true
+  vouched-stays k was = rw as-many-bodies (by-case (each-contact s t k))
     where
-      by-case : (o : Outcome) → outcome s t ≡ o → vouchedAt after (s .contact) ≡ true
-      by-case (Refused n) e = same-vouched (s .contact) (row-stays (s .contact) (λ d done. not-both (sym e ∙ done))) ∙ was
-      by-case (Done d) e =
-          let back : contactAt (after .numbers) (after .floats) (s .contact) ≡ d .contact = sym (its-contact s after) ∙ contact-read-back s t d e in
-          let copies = done-there s t d e in
-          ap (λ n. vouched n (contactAt (after .numbers) (after .floats) (s .contact))) as-many-bodies
-          ∙ ap (vouched (rows bodyWidth (t .bodies))) back
-          ∙ stays-vouched (itsContact s t) (s .kind) (velsAt (t .bodies) (itsContact s t .head)) (rows bodyWidth (t .bodies)) d (copies .1)
+      by-case : (contactAt (after .numbers) (after .floats) k ≡ contactAt (t .numbers) (t .floats) k) ⊎ Own s t k (contactAt (after .numbers) (after .floats) k)
+          → vouched (rows bodyWidth (t .bodies)) (contactAt (after .numbers) (after .floats) k) ≡ true
+      by-case (inl same) = rw same was
+      by-case (inr mine) =
+          let c = itsContact s t in
+          rw (mine .is)
+          (stays-vouched c (s .kind) (velsAt (t .bodies) (c .head)) (rows bodyWidth (t .bodies)) (mine .gave) (done-there s t (mine .gave) (mine .done) .1))
 
-  -- its contact needs no more testing
-  abbrev settled : Bool
-  settled = vouchedAt t (s .contact)
-
-  -- so the flags are right again
-  pub stay-right : (flags : List ℕ) → Vouching flags t → Vouching (flagged flags (s .contact) settled) after
+  -- so the flags are right again, with that of the step's contact up if it was vouched for
+  pub stay-right : (flags : List ℕ) → Vouching flags t → Vouching (flagged flags (s .contact) (vouchedAt t (s .contact))) after
   unfolding Vouching
-  stay-right flags right j up = by-case (eqb j (s .contact)) refl
+  stay-right flags right j up = vouched-stays j (by-case (eqb j (s .contact)) refl)
     where
-      by-case : (same : Bool) → eqb j (s .contact) ≡ same → vouchedAt after j ≡ true
+      by-case : (same : Bool) → eqb j (s .contact) ≡ same → vouchedAt t j ≡ true
       by-case true e =
           let is : j ≡ s .contact = eqb-true j (s .contact) e in
-          rw is (own-vouched (own-flag flags (s .contact) settled (rw is at up)))
-      by-case false e =
-          let ne = eqb-false j (s .contact) e in
-          same-vouched j (row-stays j (λ d done. ne)) ∙ right j (sym (other-flag flags (s .contact) j settled ne) ∙ up)
+          rw is (own-flag flags (s .contact) (vouchedAt t (s .contact)) (rw is at up))
+      by-case false e = right j (sym (other-flag flags (s .contact) j (vouchedAt t (s .contact)) (eqb-false j (s .contact) e)) ∙ up)
 
 -- a turn's calls, put together
 pub flags-right : (flags : List ℕ) (t : Tables) (s : Step) {a : Answer} {t′ : Tables} {found : ℕ} {flags′ : List ℕ} → Vouching flags t

@@ -12,16 +12,12 @@ use Rattle.base_words.specs.Choice.{if_then_else_}
 use Rattle.base_words.specs.Each.{Each}
 use Rattle.base_words.proofs.Each.{each-at}
 use Rattle.base_places.specs.declared.Cell.the-variants.{NormalImpulse}
-use Rattle.elem_leaves.specs.Leaves.{vec}
-use Rattle.elem_leaves.specs.declared.Vec2.{Vec2}
 use Rattle.elem_leaves.specs.Signs.{AtLeast0, InUnit}
 use Rattle.elem_leaves.proofs.Signs.{number-at-least}
 use Rattle.elem_velocity.specs.declared.Vels.{Vels}
 use Rattle.elem_impulse.specs.Pushing.{Made, Pushes}
-use Rattle.elem_impulse.proofs.Pushing.{carried, normals-push, pairs-push, restitutions-push}
-use Rattle.elem_normal.specs.Normal.{normal, normalMoved, normalWith, restitution}
-use Rattle.elem_normal.specs.Pair.{pair, pairChoice, pairMoved}
-use Rattle.elem_normal.specs.declared.ContactConstraintNormalPart.{ContactConstraintNormalPart}
+use Rattle.elem_impulse.proofs.Pushing.{carried}
+use Rattle.elem_normal.proofs.Pushing.{parts-push}
 use Rattle.step_contact.specs.Places.{Place, at-a, at-b, load, number, point}
 use Rattle.step_contact.specs.declared.Contact.{Contact}
 use Rattle.step_contact.specs.declared.ContactHead.{ContactHead}
@@ -29,7 +25,6 @@ use Rattle.step_contact.specs.declared.ContactPoint.{ContactPoint}
 use Rattle.step_kinds.specs.Kinds.{atPoint, frictionAt, normalAt, normalLeft, overPoints, pairOf, restitutionAt, turn, warmNormalAt, warmStart, warmTangentAt}
 use Rattle.step_kinds.specs.Table.{kindOf, kinds, noKind, pointsFor, routine}
 use Rattle.step_kinds.proofs.Keeps.{warm-keeps}
-use Rattle.step_kinds.specs.declared.PointSolved.{PointSolved}
 use Rattle.step_kinds.specs.declared.Rule.{Rule}
 use Rattle.step_kinds.specs.declared.Rule.the-variants.{WarmNormal, WarmTangent, Normal, Friction, Restitution}
 use Rattle.step_shape.proofs.Points.{two-points}
@@ -44,12 +39,12 @@ held p = p .«normal_part» .impulse
 
 module _ (h : ContactHead) (p : ContactPoint) (v : Vels) where
   normal-pushes : InUnit (p .«normal_part» .«cfm_factor») → Made (held (atPoint Normal h p v .point))
-  unfolding atPoint normalAt normalLeft normal normalMoved normalWith
-  normal-pushes soft = normals-push (p .«normal_part» .«cfm_factor») _ _ _ soft
+  unfolding atPoint normalAt normalLeft
+  normal-pushes soft = parts-push .normals (p .«normal_part») (h .dir1) (h .im1) (h .im2) v soft
 
   restitution-pushes : Pushes (held p) (held (atPoint Restitution h p v .point))
-  unfolding atPoint restitutionAt normalLeft restitution normalMoved normalWith
-  restitution-pushes = restitutions-push _ _ (held p) _ _
+  unfolding atPoint restitutionAt normalLeft
+  restitution-pushes = parts-push .restitutions (p .«normal_part») (h .dir1) (h .im1) (h .im2) v
 
   friction-keeps : held (atPoint Friction h p v .point) ≡ held p
   unfolding atPoint frictionAt
@@ -74,23 +69,6 @@ module _ (h : ContactHead) (p : ContactPoint) (v : Vels) where
       by-case true f = f refl
       by-case false f = inl refl
 
--- two points together
-parts-push : (a b : ContactConstraintNormalPart) (dir im1 im2 : Vec2) (k12 flag : Float) (v : Vels) → InUnit (a .«cfm_factor») → InUnit (b .«cfm_factor»)
-    → Pushes (a .impulse) (pair a b dir im1 im2 k12 flag v .a .impulse) × Pushes (b .impulse) (pair a b dir im1 im2 k12 flag v .b .impulse)
-unfolding pair pairMoved pairChoice normalWith
-parts-push a b dir im1 im2 k12 flag v soft-a soft-b =
-    pairs-push (record {
-      dvel = _;
-      degraded-dvel = _;
-      prev = vec (a .impulse) (b .impulse);
-      ra = a .r;
-      rb = b .r;
-      k12 = k12;
-      flag = flag;
-      cfm = vec (a .«cfm_factor») (b .«cfm_factor»);
-    })
-    (soft-a, soft-b)
-
 module _ (c : Contact) (v : Vels) where
   -- at both places
   over-pushes : (rule : Rule) → ((x : Place) (w : Vels) → number x < c .head .count → Pushes (load x c) (held (atPoint rule (c .head) (point x c) w .point)))
@@ -101,8 +79,10 @@ module _ (c : Contact) (v : Vels) where
 
   pair-pushes : 1 < c .head .count → Soft c → AllPush c (pairOf c v .contact)
   unfolding pairOf
-  pair-pushes two soft at-a = parts-push (c .a .«normal_part») (c .b .«normal_part») _ _ _ _ _ v (soft at-a (omega arith)) (soft at-b two) .0
-  pair-pushes two soft at-b = parts-push (c .a .«normal_part») (c .b .«normal_part») _ _ _ _ _ v (soft at-a (omega arith)) (soft at-b two) .1
+  pair-pushes two soft x =
+      let h = c .head in
+      let both = parts-push .pairs (c .a .«normal_part») (c .b .«normal_part») (h .dir1) (h .im1) (h .im2) (h .k12) (h .flag) v (soft at-a (omega arith)) (soft at-b two) in
+      elim x [ at-a ↦ both .0 | at-b ↦ both .1 ]
 
   warm-pushes : AllPush c (warmStart c v .contact)
   warm-pushes x = rw (warm-keeps c v) (inl refl)
