@@ -52,7 +52,8 @@
 #define ROMALUDIV_CFM 8
 #define ROMALUDIV_SEED 9
 /* So the load of point b of contact k, its normal impulse, is
- *   floats[k * ROMALUDIV_FLOATS_WIDTH + ROMALUDIV_POINT_B + ROMALUDIV_NORMAL + ROMALUDIV_IMPULSE] */
+ *   floats[k * ROMALUDIV_FLOATS_WIDTH + ROMALUDIV_POINT_B + ROMALUDIV_NORMAL + ROMALUDIV_IMPULSE]
+ * No load pulls (proved): after the call it is what it was, or 0 or above. */
 
 /* The kinds of a step. */
 #define ROMALUDIV_WARM_START 0

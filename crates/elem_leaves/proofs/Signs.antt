@@ -156,10 +156,7 @@ pub not-below : (x : Float) → AtLeast0 x → NotBelow0 x
 not-below x h = below-is x ∙ not-downward x (sym (at-least-is x) ∙ h)
 
 pub product-at-least : OutlastsProducts AtLeast0
-product-at-least c x f h =
-    let above = all-l (c >f ofBits binary32 0) (le c one) f in
-    let small = all-r (c >f ofBits binary32 0) (le c one) f in
-    at-least-is (c *f x) ∙ product c x above small (sym (at-least-is x) ∙ h)
+product-at-least c x f h = at-least-is (c *f x) ∙ product c x (search (all-l, all-r)) (search (all-l, all-r)) (sym (at-least-is x) ∙ h)
 
 pub product-not-below : OutlastsProducts NotBelow0
 product-not-below c x f h = by-case (upward-else x (sym (below-is x) ∙ h))
