@@ -1,7 +1,7 @@
 -- The statement of specs/Pushing.antt: what every step keeps, a call keeps. Assumes nothing.
 use Prim.Native.Nat.{ℕ, suc, _<_}
 use native.Mathlib.Omega.{arith}
-use mathlib.Core.Logic.{_⊎_, inl}
+use mathlib.Core.Logic.{inl}
 use mathlib.Core.Path.{_≡_, refl, sym, _∙_}
 use Rattle.base_places.specs.Places.{stepWidth}
 use Rattle.base_rows.specs.Rows.{rows}
@@ -19,7 +19,7 @@ use Rattle.list_pushing.specs.Pushing.{AllLoads, loadAt}
 use Rattle.list_pushing.proofs.Pushing.{loads-after, step-changed, step-stays}
 use Rattle.call_rules.specs.Call.{Ended, Lent}
 use Rattle.call_rules.specs.Demands.{Demand2, before, numberOf}
-use Rattle.call_rules.specs.Pushing.{NeverPulls}
+use Rattle.call_rules.specs.Pushing.{CallsPush}
 use Rattle.call_rules.proofs.Before.{before-more}
 use Rattle.call_rules.proofs.Demands.{in-list, number-is}
 use Rattle.call_rules.proofs.Kept.{call-keeps, kept-before, kept-since}
@@ -52,8 +52,8 @@ module _ (lent : Lent) (budget : ℕ) (e : Ended) (so : Demand2 lent budget e) w
         lent budget e so (suc i) (omega arith)
         (rw (before-more lent i there) (loads-after s (before lent i) (sym (number-is lent budget e so i among) ∙ done) x in-use))
 
-pub never-pulls : NeverPulls
-never-pulls lent budget e so = record {
+pub calls-push : CallsPush
+calls-push lent budget e so = record {
   not-below = call-keeps (AllLoads NotBelow0) (step-stays NotBelow0 not-below) lent budget e so;
   at-least = call-keeps (AllLoads AtLeast0) (step-stays AtLeast0 (λ x h. h)) lent budget e so;
   each-load = each-load lent budget e so;

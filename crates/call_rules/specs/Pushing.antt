@@ -2,7 +2,6 @@
 -- proofs/Pushing.antt. Assumes nothing.
 use Prim.Native.Nat.{ℕ, _<_}
 use mathlib.Core.Path.{_≡_}
-use lib.Ieee.{Float}
 use Rattle.elem_leaves.specs.Signs.{AtLeast0, NotBelow0}
 use Rattle.elem_impulse.specs.Pushing.{Pushes}
 use Rattle.step_contact.specs.Places.{Place, number}
@@ -11,7 +10,7 @@ use Rattle.list_pushing.specs.Pushing.{AllLoads, loadAt}
 use Rattle.call_rules.specs.Call.{Ended, Lent}
 use Rattle.call_rules.specs.Demands.{Demand2, numberOf}
 
-pub record NoPull (lent : Lent) (e : Ended) : Type 0 where
+pub record CallPushes (lent : Lent) (e : Ended) : Type 0 where
   -- where every contact's normal impulses were not below 0, they are not; and the same of 0 or above
   pub not-below : AllLoads NotBelow0 (lent .tables) → AllLoads NotBelow0 (e .tables)
   pub at-least : AllLoads AtLeast0 (lent .tables) → AllLoads AtLeast0 (e .tables)
@@ -23,5 +22,5 @@ pub record NoPull (lent : Lent) (e : Ended) : Type 0 where
       (x : Place) → number x < contactAt (lent .tables .numbers) (lent .tables .floats) k .head .count → AtLeast0 (loadAt k x (e .tables))
 
 -- of whatever meets the call's contract
-abbrev pub NeverPulls : Type 0
-NeverPulls = (lent : Lent) (budget : ℕ) (e : Ended) → Demand2 lent budget e → NoPull lent e
+abbrev pub CallsPush : Type 0
+CallsPush = (lent : Lent) (budget : ℕ) (e : Ended) → Demand2 lent budget e → CallPushes lent e

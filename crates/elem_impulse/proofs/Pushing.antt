@@ -2,7 +2,7 @@
 use mathlib.Core.Bool.{Bool, true, false, _&&_}
 use mathlib.Core.List.{List, [], _∷_}
 use mathlib.Core.Logic.{_⊎_, inl, inr}
-use mathlib.Core.Path.{_≡_, refl, sym, ap, _∙_}
+use mathlib.Core.Path.{_≡_, refl, sym, _∙_}
 use lib.Dec.{T}
 use lib.Ieee.{Float, binary32, eq, fits, le, lt, neg, ofBits}
 use lib.Ieee.Fits.{cond-fits, mul-fits, sub-fits}
@@ -18,10 +18,9 @@ use Rattle.elem_leaves.specs.declared.Vec2.{Vec2}
 use Rattle.elem_impulse.specs.Block.{aOnly, alone, bOnly, blockChoice, both, candidates, firstPassing, kept, neither, system}
 use Rattle.elem_impulse.specs.Pair.{choice, degraded}
 use Rattle.elem_impulse.specs.Point.{normalImpulse, restitutionImpulse}
-use Rattle.elem_impulse.specs.Pushing.{CandidatesPush, ExactlyFirst, FirstPassing, FlagAboveHalf, Given, InOrder, Made, NeverPulls, OfBoth, PairsKeep, Pushes, PushesIfPassing, chosen}
+use Rattle.elem_impulse.specs.Pushing.{CandidatesPush, FirstPassing, FlagAboveHalf, Given, InOrder, Made, RulesPush, OfBoth, PairsKeep, Pushes, PushesIfPassing, chosen}
 use Rattle.elem_impulse.specs.declared.Candidate.{Candidate}
 use Rattle.elem_impulse.specs.declared.PairChoice.{PairChoice}
-use Rattle.elem_impulse.specs.declared.System.{System}
 
 -- what every number of 0 or above has, a new impulse has where the old one had it
 pub carried : (P : Float → Type 0) → ((x : Float) → AtLeast0 x → P x) → {old new : Float} → Pushes old new → P old → P new
@@ -143,8 +142,8 @@ pairs-push p soft = by-case (p .flag >f half) refl
 pairs-keep : (P : Float → Type 0) → ((x : Float) → AtLeast0 x → P x) → PairsKeep P
 pairs-keep P wide p old soft = let new = pairs-push p soft in (carried P wide (new .0) (old .0), carried P wide (new .1) (old .1))
 
-pub never-pulls : NeverPulls
-never-pulls = record {
+pub rules-push : RulesPush
+rules-push = record {
   pairs-not-below = pairs-keep NotBelow0 not-below;
   pairs-at-least = pairs-keep AtLeast0 (λ x h. h);
   pairs = pairs-push;

@@ -49,7 +49,7 @@ Made x = AtLeast0 x × T (fits binary32 x)
 abbrev pub Pushes : Float → Float → Type 0
 Pushes old new = (new ≡ old) ⊎ Made new
 
-pub record NeverPulls : Type 0 where
+pub record RulesPush : Type 0 where
   pub pairs-not-below : PairsKeep NotBelow0
   pub pairs-at-least : PairsKeep AtLeast0
   pub pairs : (p : Given) → OfBoth InUnit (p .cfm)

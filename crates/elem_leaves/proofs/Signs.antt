@@ -7,7 +7,6 @@ use mathlib.Core.Path.{_≡_, refl, sym, ap, _∙_}
 use mathlib.Core.Bool.{Bool, true, false, not, cond, _&&_, _||_}
 use borrow.Author.Tests.{eq-eqb, eqb-true, le-ltb, lt-ltb, ltb-true, ne-eqb}
 use lib.Dec.{eqb, ltb, lit<}
-use lib.IntN.{ℤ}
 use lib.Ieee.{Float, nan, inf, fin, Format, binary32, prec, emax, low, up, down, odd, units, round, mul, le, lt, eq, ofBits}
 use lib.Ieee.Exact.{HasValue, round-exact}
 use lib.Ieee.Fits.{down-pos, round-is, up-pos}
@@ -16,7 +15,7 @@ use Rattle.base_words.proofs.Said.{all-l, all-r, so}
 use Rattle.elem_leaves.specs.Finite.{finite}
 use Rattle.elem_leaves.specs.Floats.{_*f_, _>f_, one}
 use Rattle.elem_leaves.specs.Leaves.{max0}
-use Rattle.elem_leaves.specs.Signs.{AtLeast0, InUnit, NotBelow0, OutlastsProducts, Signs}
+use Rattle.elem_leaves.specs.Signs.{AtLeast0, NotBelow0, OutlastsProducts, Signs}
 use Rattle.elem_leaves.proofs.Itself.{no-factor}
 
 -- 0 or above, by what the float is

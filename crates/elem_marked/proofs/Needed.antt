@@ -1,5 +1,5 @@
 -- The statements of specs/Needed.antt, by computing them. Assumes nothing.
-use mathlib.Core.Path.{_≡_, refl}
+use mathlib.Core.Path.{refl}
 use lib.Ieee.{add, div, eq, isNan, le, lt, mul, neg, ofBits, ofInt, sub}
 use Rattle.elem_leaves.specs.Leaves.{inv, max0}
 use Rattle.elem_impulse.specs.Block.{aOnly, alone, bOnly, blockChoice, both, candidates, firstPassing, kept, neither, system}

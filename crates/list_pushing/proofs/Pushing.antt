@@ -1,13 +1,9 @@
 -- The statements of specs/Pushing.antt: a step changes no contact but its own, and that one as the step on copies does. Assumes nothing.
 use Prim.Native.Nat.{ℕ, _<_}
-use native.Mathlib.Omega.{arith}
-use mathlib.Core.Bool.{Bool, true, false}
 use mathlib.Core.List.{List, [], _∷_}
-use mathlib.Core.Logic.{_≢_, _⊎_, inl, inr}
+use mathlib.Core.Logic.{_⊎_, inl, inr}
 use mathlib.Core.Path.{_≡_, refl, ap, _∙_}
-use lib.Dec.{ltb}
 use lib.Ieee.{Float}
-use Rattle.base_words.specs.Choice.{if_then_else_}
 use Rattle.base_places.specs.Places.{bodyWidth, floatsWidth}
 use Rattle.base_rows.specs.Rows.{rows}
 use Rattle.base_order.specs.OneByOne.{finish}
@@ -15,23 +11,22 @@ use Rattle.elem_leaves.specs.Signs.{AtLeast0, NotBelow0}
 use Rattle.elem_leaves.proofs.Signs.{not-below}
 use Rattle.elem_impulse.specs.Pushing.{Pushes}
 use Rattle.elem_impulse.proofs.Pushing.{carried, pushed-on}
-use Rattle.step_contact.specs.Places.{Place, load, number}
+use Rattle.step_contact.specs.Places.{Place, number}
 use Rattle.step_contact.specs.declared.Contact.{Contact}
 use Rattle.step_kinds.specs.declared.ContactSolved.{ContactSolved}
-use Rattle.step_rules.specs.Step.{step}
-use Rattle.step_rules.specs.declared.Outcome.{Outcome}
-use Rattle.step_rules.specs.declared.Outcome.the-variants.{Done, Refused}
+use Rattle.step_rules.specs.declared.Outcome.the-variants.{Done}
 use Rattle.step_promises.specs.Pushing.{AllPush}
-use Rattle.step_promises.proofs.Promises.{refused-number, same-head-kept}
+use Rattle.step_promises.proofs.Promises.{same-head-kept}
 use Rattle.step_promises.proofs.Pushing.{done-loads, done-pushes}
 use Rattle.list_tables.specs.Tables.{contactAt}
 use Rattle.list_tables.specs.declared.Step.{Step}
-use Rattle.list_rules.specs.Sweep.{Tables, answered, ifThere, itsContact, outcome, stepOn, velsAt}
+use Rattle.list_rules.specs.Sweep.{Tables, itsContact, outcome, stepOn, velsAt}
+use Rattle.list_rules.proofs.Answered.{done-of}
 use Rattle.list_rules.proofs.Done.{done-there, its-contact}
 use Rattle.list_rules.proofs.Rows.{after-floats, floats-as-many}
 use Rattle.list_readback.specs.ReadBack.{Own}
 use Rattle.list_readback.proofs.ReadBack.{contact-read-back, each-contact}
-use Rattle.list_pushing.specs.Pushing.{AllLoads, ListsNeverPull, StaySo, loadAt}
+use Rattle.list_pushing.specs.Pushing.{AllLoads, ListsPush, StaySo, loadAt}
 
 -- what may become of a contact
 pub record Changed (old new : Contact) : Type 0 where
@@ -73,10 +68,10 @@ module _ (s : Step) (t : Tables) where
       (done-loads c (s .kind) (velsAt (t .bodies) (c .head)) (rows bodyWidth (t .bodies)) d (done-there s t d done .1) x below)
 
 -- a list
-lists-push : (steps : List Step) (t : Tables) (k : ℕ) (x : Place) → Pushes (loadAt k x t) (loadAt k x (finish stepOn steps t))
+each-load : (steps : List Step) (t : Tables) (k : ℕ) (x : Place) → Pushes (loadAt k x t) (loadAt k x (finish stepOn steps t))
 unfolding finish
-lists-push [] t k x = inl refl
-lists-push (s ∷ ss) t k x = pushed-on (step-changed s t k .loads x) (lists-push ss (stepOn s t .after) k x)
+each-load [] t k x = inl refl
+each-load (s ∷ ss) t k x = pushed-on (step-changed s t k .loads x) (each-load ss (stepOn s t .after) k x)
 
 -- what every number of 0 or above has
 module _ (P : Float → Type 0) (wide : (x : Float) → AtLeast0 x → P x) where
@@ -88,33 +83,7 @@ module _ (P : Float → Type 0) (wide : (x : Float) → AtLeast0 x → P x) wher
   stay-so [] t old = old
   stay-so (s ∷ ss) t old = stay-so ss (stepOn s t .after) (step-stays s t old)
 
--- a refused step has a number
-refused-there : (contacts : ℕ) (s : Step) (o : Outcome) (n : ℕ) → ((m : ℕ) → o ≡ Refused m → m ≢ 0) → ifThere contacts s o ≡ Refused n → n ≢ 0
-unfolding ifThere
-refused-there contacts s o n numbered = by-case (ltb (s .contact) contacts)
-  where
-    by-case : (b : Bool) → (if b then o else Refused 2) ≡ Refused n → n ≢ 0
-    by-case true e = numbered n e
-    by-case false e = λ zero. let two : _≡_ {A = ℕ} 2 n = cc in absurd (omega arith)
-
-not-zero : (s : Step) (t : Tables) (n : ℕ) → outcome s t ≡ Refused n → n ≢ 0
-unfolding outcome
-not-zero s t n =
-    let c = itsContact s t in
-    let v = velsAt (t .bodies) (c .head) in
-    let many = rows bodyWidth (t .bodies) in
-    refused-there (rows floatsWidth (t .floats)) s (step c (s .kind) v many) n (λ m. refused-number c (s .kind) v many m)
-
--- a step that was answered 0 was done
-done-of : (s : Step) (t : Tables) → stepOn s t .answer .number ≡ 0 → (d : ContactSolved) × (outcome s t ≡ Done d)
-unfolding stepOn answered
-done-of s t zero = by-case (outcome s t) refl
-  where
-    by-case : (o : Outcome) → outcome s t ≡ o → (d : ContactSolved) × (outcome s t ≡ Done d)
-    by-case (Refused n) e = absurd (not-zero s t n e (rw e at zero))
-    by-case (Done d) e = (d, e)
-
--- and its loads in use are 0 or above
+-- a step that was answered 0 was done, and its loads in use are 0 or above
 pub loads-after : (s : Step) (t : Tables) → stepOn s t .answer .number ≡ 0 → (x : Place) → number x < itsContact s t .head .count
     → AtLeast0 (loadAt (s .contact) x (stepOn s t .after))
 loads-after s t zero x below = let was = done-of s t zero in own-loads s t (was .0) (was .1) x below
@@ -122,12 +91,12 @@ loads-after s t zero x below = let was = done-of s t zero in own-loads s t (was 
 after-done : (s : Step) (steps : List Step) (t : Tables) → stepOn s t .answer .number ≡ 0 → (x : Place) → number x < itsContact s t .head .count
     → AtLeast0 (loadAt (s .contact) x (finish stepOn steps (stepOn s t .after)))
 after-done s steps t zero x below =
-    carried AtLeast0 (λ n h. h) (lists-push steps (stepOn s t .after) (s .contact) x) (loads-after s t zero x below)
+    carried AtLeast0 (λ n h. h) (each-load steps (stepOn s t .after) (s .contact) x) (loads-after s t zero x below)
 
-pub lists-never-pull : ListsNeverPull
-lists-never-pull = record {
+pub lists-push : ListsPush
+lists-push = record {
   not-below = stay-so NotBelow0 not-below;
   at-least = stay-so AtLeast0 (λ x h. h);
-  each-load = lists-push;
+  each-load = each-load;
   after-done = after-done;
 }

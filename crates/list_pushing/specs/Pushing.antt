@@ -26,7 +26,7 @@ AllLoads P t = (k : ℕ) → k < rows floatsWidth (t .floats) → (x : Place) �
 abbrev pub StaySo : (Float → Type 0) → Type 0
 StaySo P = (steps : List Step) (t : Tables) → AllLoads P t → AllLoads P (finish stepOn steps t)
 
-pub record ListsNeverPull : Type 0 where
+pub record ListsPush : Type 0 where
   pub not-below : StaySo NotBelow0
   pub at-least : StaySo AtLeast0
   -- with nothing asked, and each load by itself, whatever the others are: it is what it was, or 0 or above

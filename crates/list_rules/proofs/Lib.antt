@@ -5,3 +5,4 @@ pub mod Done
 pub mod Rows
 pub mod Exact
 pub mod Few
+pub mod Answered

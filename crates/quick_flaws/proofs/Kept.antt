@@ -1,6 +1,6 @@
 -- A point whose cells were stored to passes 8 and 9 as before, if its new cells do. Assumes nothing.
 use mathlib.Core.Path.{_≡_, refl, sym, ap, _∙_}
-use mathlib.Core.Bool.{Bool, true, false, not, _&&_, _||_}
+use mathlib.Core.Bool.{Bool, true, false, _&&_, _||_}
 use lib.Dec.{ltb}
 use lib.Ieee.{Float}
 use Rattle.elem_leaves.specs.Finite.{finite}

@@ -3,7 +3,7 @@ use Prim.Native.Nat.{ℕ}
 use mathlib.Core.Path.{_≡_, refl, ap, _∙_}
 use mathlib.Core.Bool.{Bool, true, false, not, _||_}
 use borrow.Author.Tests.{eqb-true, ltb-true}
-use lib.Dec.{eqb, ltb}
+use lib.Dec.{ltb}
 use Rattle.base_words.proofs.Said.{none-l, none-r, so}
 use Rattle.base_refusals.specs.Refusals.{first}
 use Rattle.base_refusals.specs.Distinct.{distinct, stands}

@@ -7,7 +7,7 @@ use mathlib.Core.List.{List, [], _∷_}
 use mathlib.Core.Logic.{_≢_, _⊎_, inl, inr}
 use mathlib.Core.Path.{_≡_, refl, sym, ap, _∙_}
 use lib.Dec.{eqb}
-use lib.ListN.{getD, length, replicate, set}
+use lib.ListN.{length, replicate, set}
 use Rattle.base_places.specs.Places.{bodyWidth}
 use Rattle.base_words.specs.Choice.{if_then_else_}
 use Rattle.base_words.proofs.Pick.{never}

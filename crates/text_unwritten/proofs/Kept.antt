@@ -5,13 +5,11 @@ use native.Mathlib.Nat.{le-refl}
 use native.Mathlib.Omega.{arith}
 use mathlib.Core.Bool.{Bool, true, false}
 use mathlib.Core.Path.{_≡_, refl, _∙_, ap}
-use Rattle.base_places.specs.Places.{bodyWidth, stepWidth}
-use Rattle.base_rows.specs.Rows.{row, rows}
+use Rattle.base_places.specs.Places.{bodyWidth}
+use Rattle.base_rows.specs.Rows.{row}
 use Rattle.list_tables.specs.Tables.{stepAt}
 use Rattle.list_tables.specs.declared.Step.{Step}
-use Rattle.base_order.proofs.Snoc.{finish-none, finish-snoc}
-use Rattle.list_rules.specs.Sweep.{Tables, firstSteps, stepOn}
-use Rattle.list_rules.proofs.Going.{first-more, first-none}
+use Rattle.list_rules.specs.Sweep.{Tables, stepOn}
 use Rattle.list_sharing.specs.Own.{Shape, body, shape, touches}
 use Rattle.list_sharing.specs.Sharing.{Names}
 use Rattle.list_sharing.proofs.Locality.{frame, same-shape}

@@ -19,21 +19,21 @@ use Rattle.base_rows.specs.Rows.{row, rows}
 use Rattle.base_rows.proofs.Parts.{part-at}
 use Rattle.elem_leaves.specs.Signs.{AtLeast0}
 use Rattle.elem_impulse.specs.Pushing.{Pushes}
-use Rattle.step_contact.specs.Places.{Place, load, number, placeOf}
+use Rattle.step_contact.specs.Places.{load, number, placeOf}
 use Rattle.list_tables.specs.Tables.{contactAt, contactOf, headOf, stepAt}
 use Rattle.list_tables.proofs.Floats.{contact-there}
 use Rattle.list_pushing.specs.Pushing.{loadAt}
 use Rattle.call_rules.specs.Demands.{numberOf}
 use Rattle.call_rules.specs.Pushing as call
-use Rattle.call_rules.proofs.Pushing.{never-pulls}
+use Rattle.call_rules.proofs.Pushing.{calls-push}
 use Rattle.text_digits.specs.Bits.{printed, valueOf}
 use Rattle.text_line.specs.Night.{Night, ofProgram}
 use Rattle.text_read.specs.Text.{reading, textOf}
 use Rattle.text_prefix.proofs.Prefix.{tables-hold}
 use Rattle.text_rows.specs.Tables.{pointsOf}
 use Rattle.text_output.specs.Answer.{called, floatsOf, lent}
-use Rattle.text_unwritten.specs.Pushing.{LinesNeverPull, NoPull, handedIn, minusZero, normalLoad}
-use Rattle.text_unwritten.proofs.AsLong.{called-as-long, called-numbers}
+use Rattle.text_unwritten.specs.Pushing.{LinesPush, LinePushes, handedIn, minusZero, normalLoad}
+use Rattle.text_unwritten.proofs.AsLong.{called-numbers}
 use Rattle.text_unwritten.proofs.AsRead.{prints-read}
 use Rattle.text_unwritten.proofs.Loads.{cell-is, row-printed}
 use Rattle.text_unwritten.proofs.Signs.{at-least-bits}
@@ -51,9 +51,9 @@ printed-up (inf s) kept up fit low = by-bits (toBits binary32 (inf s)) (at-least
 printed-up (fin s m e) kept up fit low = by-bits (toBits binary32 (fin s m e)) (at-least-bits (fin s m e) up fit) low
 
 -- what the call leaves of a night
-of-night : (t : Night) → call.NoPull (lent t) (called t)
+of-night : (t : Night) → call.CallPushes (lent t) (called t)
 unfolding called
-of-night t = never-pulls (lent t) (rows stepWidth (t .steps)) (called t) refl
+of-night t = calls-push (lent t) (rows stepWidth (t .steps)) (called t) refl
 
 -- every float of a text fits
 all-fit : (bits : List ℕ) (j : ℕ) → T (fits binary32 (getD (map valueOf bits) j nan))
@@ -138,8 +138,8 @@ module _ (s line : List ℕ) (n : ℕ) (t : Night) (e : textOf ofProgram s ≡ r
       (subst (λ (j : ℕ). AtLeast0 (loadAt j (placeOf p) (called t .tables))) same
       (of-night t .where-done i among done (placeOf p) (rw same (in-use printed-there))))
 
-pub lines-never-pull : LinesNeverPull
-lines-never-pull s line n t e k p in-table of-two =
+pub lines-push : LinesPush
+lines-push s line n t e k p in-table of-two =
     let change = became s line n t e k p in-table of-two in
     record {
       signed = signed s line n t e k p in-table of-two change;

@@ -27,7 +27,7 @@ normalLoad t k p = shown (t .numbers) (called t .tables .floats) (t .floats) k p
 abbrev pub handedIn : Night → ℕ → ℕ → ℕ
 handedIn t k p = getD (row floatsWidth k (t .floats)) (pointPlace p + place NormalImpulse) 0
 
-pub record NoPull (t : Night) (k p : ℕ) : Type 0 where
+pub record LinePushes (t : Night) (k p : ℕ) : Type 0 where
   -- with a sign bit it is minus zero, or bit for bit what was handed in
   pub signed : minusZero ≤ normalLoad t k p → (normalLoad t k p ≡ minusZero) ⊎ (normalLoad t k p ≡ handedIn t k p)
   -- where a step on the contact was answered 0 and the point has an I line, it is minus zero
@@ -35,6 +35,6 @@ pub record NoPull (t : Night) (k p : ℕ) : Type 0 where
       → minusZero ≤ normalLoad t k p → normalLoad t k p ≡ minusZero
 
 -- of a text that was read to its end, t being what it says: of every point of every contact
-abbrev pub LinesNeverPull : Type 0
-LinesNeverPull =
-    (s line : List ℕ) (n : ℕ) (t : Night) → textOf ofProgram s ≡ reading line n t → (k p : ℕ) → k < rows floatsWidth (t .floats) → p < 2 → NoPull t k p
+abbrev pub LinesPush : Type 0
+LinesPush =
+    (s line : List ℕ) (n : ℕ) (t : Night) → textOf ofProgram s ≡ reading line n t → (k p : ℕ) → k < rows floatsWidth (t .floats) → p < 2 → LinePushes t k p
