@@ -8,6 +8,7 @@ use lib.Ieee.{Float, binary32, eq, fits, le, lt, neg, ofBits}
 use lib.Ieee.Fits.{cond-fits, mul-fits, sub-fits}
 use Rattle.base_words.specs.Choice.{if_then_else_}
 use Rattle.base_words.specs.Each.{Each}
+use Rattle.base_words.proofs.Each.{_and_}
 use Rattle.base_words.proofs.Pick.{take, pass}
 use Rattle.base_words.proofs.Said.{all-l, all-r}
 use Rattle.elem_leaves.specs.Floats.{_-f_, _*f_, _<f_, _>f_, half, zero}
@@ -44,13 +45,12 @@ alone-pushes b kp other k12 h = (search all-l, mul-fits binary32 (neg b) (inv kp
 
 pub candidates-push : CandidatesPush
 unfolding candidates both aOnly bOnly neither
-candidates-push s = (
-  λ h. ((search (all-l, all-r), mul-fits binary32 _ _), (search (all-l, all-r), mul-fits binary32 _ _)),
-  (
-    λ h. (alone-pushes (s .b1) (s .kp11) (s .b2) (s .k12) h, zero-made),
-    (λ h. (zero-made, alone-pushes (s .b2) (s .kp22) (s .b1) (s .k12) h), (λ h. (zero-made, zero-made), tt)),
-  ),
-)
+candidates-push s =
+    (λ h. ((search (all-l, all-r), mul-fits binary32 _ _), (search (all-l, all-r), mul-fits binary32 _ _)))
+    and (λ h. (alone-pushes (s .b1) (s .kp11) (s .b2) (s .k12) h, zero-made))
+    and (λ h. (zero-made, alone-pushes (s .b2) (s .kp22) (s .b1) (s .k12) h))
+    and (λ h. (zero-made, zero-made))
+    and tt
 
 pub in-order : InOrder
 unfolding candidates both aOnly bOnly neither

@@ -10,7 +10,7 @@ use lib.Dec.{ltb}
 use lib.Ieee.{Float}
 use Rattle.base_words.specs.Choice.{if_then_else_}
 use Rattle.base_words.specs.Each.{Each}
-use Rattle.base_words.proofs.Each.{each-at}
+use Rattle.base_words.proofs.Each.{_and_, each-at}
 use Rattle.base_places.specs.declared.Cell.the-variants.{NormalImpulse}
 use Rattle.elem_leaves.specs.Signs.{AtLeast0, InUnit}
 use Rattle.elem_leaves.proofs.Signs.{number-at-least}
@@ -90,19 +90,13 @@ module _ (c : Contact) (v : Vels) where
 -- the table of kinds, line by line
 kinds-push : Each KindPushes kinds
 unfolding kinds
-kinds-push = (
-  λ c v two soft. warm-pushes c v,
-  (
-    λ c v two soft. over-pushes c v Normal (λ x w below. inr (normal-pushes (c .head) (point x c) w (soft x below))),
-    (
-      λ c v two soft. over-pushes c v Friction (λ x w below. inl (friction-keeps (c .head) (point x c) w)),
-      (
-        λ c v two soft. over-pushes c v Restitution (λ x w below. restitution-pushes (c .head) (point x c) w),
-        (λ c v two soft. pair-pushes c v (two refl) soft, tt),
-      ),
-    ),
-  ),
-)
+kinds-push =
+    (λ c v two soft. warm-pushes c v)
+    and (λ c v two soft. over-pushes c v Normal (λ x w below. inr (normal-pushes (c .head) (point x c) w (soft x below))))
+    and (λ c v two soft. over-pushes c v Friction (λ x w below. inl (friction-keeps (c .head) (point x c) w)))
+    and (λ c v two soft. over-pushes c v Restitution (λ x w below. restitution-pushes (c .head) (point x c) w))
+    and (λ c v two soft. pair-pushes c v (two refl) soft)
+    and tt
 
 -- no other number does anything
 nothing-pushes : KindPushes noKind
