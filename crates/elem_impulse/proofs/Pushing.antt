@@ -38,6 +38,11 @@ zero-made : Made zero
 unfolding le lt eq ofBits fits
 zero-made = (refl, tt)
 
+-- the candidates in their order
+pub in-order : InOrder
+unfolding candidates both aOnly bOnly neither
+in-order s = refl
+
 -- the candidates, each by its own tests
 alone-pushes : (b kp other k12 : Float) → alone b kp other k12 .passes ≡ true → Made (alone b kp other k12 .impulse)
 unfolding alone
@@ -51,10 +56,6 @@ candidates-push s =
     and (λ h. (zero-made, alone-pushes (s .b2) (s .kp22) (s .b1) (s .k12) h))
     and (λ h. (zero-made, zero-made))
     and tt
-
-pub in-order : InOrder
-unfolding candidates both aOnly bOnly neither
-in-order s = refl
 
 -- the definition of the first that passes is the first that passes, and there is but one
 first-is : (cs : List Candidate) (none-passed : PairChoice) → FirstPassing cs none-passed (firstPassing cs none-passed)
@@ -84,7 +85,7 @@ unfolding choice
 degraded-chosen p not-above = sym (pass _ not-above refl)
 
 pub flag-above-half : FlagAboveHalf
-unfolding blockChoice
+unfolding blockChoice kept
 flag-above-half p above =
     let cs = candidates (system (p .dvel) (p .prev) (p .ra) (p .rb) (p .k12) (p .cfm)) in
     let is : chosen p ≡ firstPassing cs (kept (p .prev)) = block-chosen p above in

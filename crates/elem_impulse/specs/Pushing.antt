@@ -10,11 +10,11 @@ use Rattle.base_words.specs.Each.{Each}
 use Rattle.elem_leaves.specs.Floats.{_>f_, half}
 use Rattle.elem_leaves.specs.Signs.{AtLeast0, InUnit, NotBelow0}
 use Rattle.elem_leaves.specs.declared.Vec2.{Vec2}
-use Rattle.elem_impulse.specs.Block.{candidates, kept, system}
+use Rattle.elem_impulse.specs.Block.{candidates, system}
 use Rattle.elem_impulse.specs.Pair.{choice}
 use Rattle.elem_impulse.specs.Point.{normalImpulse, restitutionImpulse}
 use Rattle.elem_impulse.specs.declared.Branch.{Branch}
-use Rattle.elem_impulse.specs.declared.Branch.the-variants.{Both, OnlyA, OnlyB, Neither}
+use Rattle.elem_impulse.specs.declared.Branch.the-variants.{Both, OnlyA, OnlyB, Neither, Kept}
 use Rattle.elem_impulse.specs.declared.Candidate.{Candidate}
 use Rattle.elem_impulse.specs.declared.PairChoice.{PairChoice}
 use Rattle.elem_impulse.specs.declared.System.{System}
@@ -66,7 +66,8 @@ FirstPassing (c ∷ cs) none-passed r = ((c .passes ≡ true) × (r ≡ c .choic
 -- "with flag above 0.5 they are exactly the first candidate that passes its tests, or the previous pair if none does": that, and nothing else. The
 -- candidates and their tests are those of Block.antt
 abbrev pub IsFirst : Given → PairChoice → Type 0
-IsFirst p = FirstPassing (candidates (system (p .dvel) (p .prev) (p .ra) (p .rb) (p .k12) (p .cfm))) (kept (p .prev))
+IsFirst p =
+    FirstPassing (candidates (system (p .dvel) (p .prev) (p .ra) (p .rb) (p .k12) (p .cfm))) (record { branch = Kept; impulse = p .prev })
 
 pub record ExactlyFirst (p : Given) : Type 0 where
   pub is-first : IsFirst p (chosen p)

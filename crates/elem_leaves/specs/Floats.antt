@@ -1,7 +1,7 @@
 -- Document 01, "Arithmetic": "every product and sum is rounded once, in the order written, left to right".
 -- The f32 operators under names of their own, so that a definition reads like the document. Each is IEEE 754's
 -- operation on binary32, which rounds once, to the nearest and at a tie to the even value. Assumes nothing.
-use mathlib.Core.Bool.{Bool}
+use mathlib.Core.Bool.{Bool, _&&_}
 use lib.Ieee.{Float, binary32, add, sub, mul, div, lt, le, ofBits}
 
 infixl 7 _*f_ _/f_
@@ -38,3 +38,10 @@ one = ofBits binary32 0x3f80_0000
 
 abbrev pub half : Float
 half = ofBits binary32 0x3f00_0000
+
+-- "below 0" and "in (0, 1]", of number 9 and request E10. "Minus zero passes", since these are tests of numbers
+abbrev pub below0 : Float → Bool
+below0 x = x <f zero
+
+abbrev pub inUnit : Float → Bool
+inUnit x = (x >f zero) && le x one

@@ -1,15 +1,15 @@
 -- Request E10, "Loads never pull": what "not below 0" and "in (0, 1]" mean of any float, and what keeps a number from going below 0. Each
 -- statement is proved in proofs/Signs.antt. Assumes nothing.
-use mathlib.Core.Bool.{true, false, _&&_}
+use mathlib.Core.Bool.{true, false}
 use mathlib.Core.Path.{_≡_}
-use lib.Ieee.{Float, le}
+use lib.Ieee.{Float}
 use Rattle.elem_leaves.specs.Finite.{finite}
-use Rattle.elem_leaves.specs.Floats.{_*f_, _<f_, _>f_, _≥f_, one, zero}
+use Rattle.elem_leaves.specs.Floats.{_*f_, _≥f_, below0, inUnit, zero}
 use Rattle.elem_leaves.specs.Leaves.{max0}
 
 -- "not below 0": not x < 0, which a NaN passes, and minus zero
 abbrev pub NotBelow0 : Float → Type 0
-NotBelow0 x = (x <f zero) ≡ false
+NotBelow0 x = below0 x ≡ false
 
 -- the stronger form, 0 or above: minus zero is, a NaN is not
 abbrev pub AtLeast0 : Float → Type 0
@@ -17,7 +17,7 @@ AtLeast0 x = (x ≥f zero) ≡ true
 
 -- "in (0, 1]"
 abbrev pub InUnit : Float → Type 0
-InUnit x = ((x >f zero) && le x one) ≡ true
+InUnit x = inUnit x ≡ true
 
 -- a product with a number in (0, 1], rounded, has what the other factor has
 abbrev pub OutlastsProducts : (Float → Type 0) → Type 0

@@ -9,7 +9,7 @@ use Rattle.elem_marked.specs.Needed.{CanBeMet, Needed}
 
 pub needed : Needed
 unfolding choice degraded blockChoice system candidates both alone aOnly bOnly neither firstPassing kept normalImpulse inv max0 ofInt ofBits neg add sub mul div lt le eq isNan
-needed = record { previous = refl; below = refl; nothing = refl; endless = refl }
+needed = record { previous-a = refl; previous-b = refl; below = refl; nothing = refl; endless = refl }
 
 pub can-be-met : CanBeMet
 unfolding le lt eq ofBits

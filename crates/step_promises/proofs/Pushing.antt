@@ -50,11 +50,11 @@ module _ (h : ContactHead) (p : ContactPoint) (v : Vels) where
   unfolding atPoint frictionAt
   friction-keeps = refl
 
-  rules-push : (rule : Rule) → InUnit (p .«normal_part» .«cfm_factor») → Pushes (held p) (held (atPoint rule h p v .point))
+  rules-push : (rule : Rule) → (rule ≡ Normal → InUnit (p .«normal_part» .«cfm_factor»)) → Pushes (held p) (held (atPoint rule h p v .point))
   unfolding atPoint warmNormalAt warmTangentAt
   rules-push WarmNormal soft = inl refl
   rules-push WarmTangent soft = inl refl
-  rules-push Normal soft = inr (normal-pushes soft)
+  rules-push Normal soft = inr (normal-pushes (soft refl))
   rules-push Friction soft = inl friction-keeps
   rules-push Restitution soft = restitution-pushes
 

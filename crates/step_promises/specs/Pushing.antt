@@ -31,8 +31,8 @@ pub record KindsPush : Type 0 where
   -- kind 1 at a point, whatever its load was
   pub normal : (h : ContactHead) (p : ContactPoint) (v : Vels) → InUnit (p .«normal_part» .«cfm_factor»)
       → Made (atPoint Normal h p v .point .«normal_part» .impulse)
-  -- each rule at a point: kind 3 keeps its load or pushes; the rules of kinds 0 and 2 store none
-  pub rules : (rule : Rule) (h : ContactHead) (p : ContactPoint) (v : Vels) → InUnit (p .«normal_part» .«cfm_factor»)
+  -- each rule at a point, kind 1's alone with cfm in (0, 1]: kind 3 keeps its load or pushes; the rules of kinds 0 and 2 store none
+  pub rules : (rule : Rule) (h : ContactHead) (p : ContactPoint) (v : Vels) → (rule ≡ Normal → InUnit (p .«normal_part» .«cfm_factor»))
       → Pushes (p .«normal_part» .impulse) (atPoint rule h p v .point .«normal_part» .impulse)
   -- each line of the table of kinds, and so every number that may stand for a kind
   pub table : Each KindPushes kinds

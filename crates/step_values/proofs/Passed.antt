@@ -3,10 +3,9 @@ use Prim.Native.Nat.{ℕ}
 use mathlib.Core.Path.{_≡_, refl, ap, _∙_}
 use mathlib.Core.Bool.{Bool, true, false, not, _&&_, _||_}
 use lib.Dec.{ltb}
-use lib.Ieee.{le}
 use Rattle.base_words.proofs.Said.{all-l, all-r, none-l, none-r, so}
 use Rattle.elem_leaves.specs.Finite.{finite}
-use Rattle.elem_leaves.specs.Floats.{_>f_, one, zero}
+use Rattle.elem_leaves.specs.Floats.{below0, inUnit}
 use Rattle.elem_leaves.specs.Signs.{InUnit, NotBelow0}
 use Rattle.elem_velocity.specs.declared.SolverVel.{SolverVel}
 use Rattle.base_order.specs.OneByOne.{any}
@@ -23,7 +22,7 @@ use Rattle.step_contact.specs.declared.Contact.{Contact}
 use Rattle.step_contact.specs.declared.ContactHead.{ContactHead}
 use Rattle.step_contact.specs.declared.ContactPoint.{ContactPoint}
 use Rattle.step_kinds.specs.declared.ContactSolved.{ContactSolved}
-use Rattle.step_values.specs.Values.{below0, belowCount, finiteHead, finiteNormal, finitePoint, finiteTangent, finiteVel, floorMoves, headOut, lostCell, lostImpulse, lostVel, notFinite, outOfRange, pointOut, somePoint, unwritable}
+use Rattle.step_values.specs.Values.{belowCount, finiteHead, finiteNormal, finitePoint, finiteTangent, finiteVel, floorMoves, headOut, lostCell, lostImpulse, lostVel, notFinite, outOfRange, pointOut, somePoint, unwritable}
 
 -- a test that holds at no point below count
 module _ (test : ContactPoint → Bool) (c : Contact) where
@@ -130,7 +129,7 @@ in-range h p e =
     let t = p .«tangent_part» in
     let rs = below0 (n .r) || below0 (t .r) in
     let i = below0 (n .impulse) in
-    let cfm = (n .«cfm_factor» >f zero) && le (n .«cfm_factor») one in
+    let cfm = inUnit (n .«cfm_factor») in
     let f1 = floorMoves (h .body1) (n .«ii_torque_dir1») (t .«ii_torque_dir1») in
     let f2 = floorMoves (h .body2) (n .«ii_torque_dir2») (t .«ii_torque_dir2») in
     let first = none-l (rs || i || not cfm) f1 (none-l (rs || i || not cfm || f1) f2 e) in

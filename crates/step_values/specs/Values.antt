@@ -3,12 +3,12 @@
 use Prim.Native.Nat.{ℕ}
 use mathlib.Core.Bool.{Bool, not, _&&_, _||_}
 use lib.Dec.{ltb}
-use lib.Ieee.{Float, le, ne}
+use lib.Ieee.{Float, ne}
 use Rattle.base_order.specs.OneByOne.{any}
 use Rattle.base_places.specs.Places.{cells}
 use Rattle.base_places.specs.declared.Cell.{Cell}
 use Rattle.elem_leaves.specs.Finite.{finite}
-use Rattle.elem_leaves.specs.Floats.{_<f_, _>f_, zero, one}
+use Rattle.elem_leaves.specs.Floats.{below0, inUnit, zero}
 use Rattle.elem_velocity.specs.declared.SolverVel.{SolverVel}
 use Rattle.elem_velocity.specs.declared.Vels.{Vels}
 use Rattle.elem_tangent.specs.declared.ContactConstraintTangentPart.{ContactConstraintTangentPart}
@@ -59,11 +59,7 @@ notFinite c = not (finiteHead (c .head)) || somePoint (λ p. not (finitePoint p)
 unfoldable pub notFiniteVels : Vels → Bool
 notFiniteVels v = not (finiteVel (v .v1)) || not (finiteVel (v .v2))
 
--- 9: im, friction, r or a normal impulse is below 0; cfm not in (0, 1]; or a floor side has im or ii other than zero.
--- "Minus zero passes", since these tests are of numbers
-abbrev pub below0 : Float → Bool
-below0 x = x <f zero
-
+-- 9: im, friction, r or a normal impulse is below 0; cfm not in (0, 1]; or a floor side has im or ii other than zero
 unfoldable pub floorMoves : ℕ → Float → Float → Bool
 floorMoves body x y = isFloor body && (ne x zero || ne y zero)
 
@@ -76,7 +72,7 @@ unfoldable pub pointOut : ContactHead → ContactPoint → Bool
 pointOut h p =
     let n = p .«normal_part» in
     let t = p .«tangent_part» in
-    below0 (n .r) || below0 (t .r) || below0 (n .impulse) || not ((n .«cfm_factor» >f zero) && le (n .«cfm_factor») one)
+    below0 (n .r) || below0 (t .r) || below0 (n .impulse) || not (inUnit (n .«cfm_factor»))
     || floorMoves (h .body1) (n .«ii_torque_dir1») (t .«ii_torque_dir1»)
     || floorMoves (h .body2) (n .«ii_torque_dir2») (t .«ii_torque_dir2»)
 

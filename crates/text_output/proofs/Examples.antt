@@ -1,5 +1,5 @@
 -- The document's night and the empty text, worked out: every definition is opened, down to the float operations. Assumes nothing.
-use mathlib.Core.List.{[], _∷_, _++_}
+use mathlib.Core.List.{[], _∷_}
 use mathlib.Core.Path.{_≡_, refl, _∙_, ap}
 use lib.Ieee.{add, isNan, le, lt, mul, ne, neg, ofBits, sub, toBits}
 use Rattle.base_refusals.specs.Refusals.{first}

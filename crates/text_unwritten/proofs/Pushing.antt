@@ -7,7 +7,7 @@ use mathlib.Core.Logic.{_⊎_, inl, inr}
 use mathlib.Core.Path.{_≡_, refl, sym, ap, _∙_, subst}
 use lib.Dec.{T, eqb}
 use lib.Ieee.{Float, nan, inf, fin, binary32, fits, isNan, le, lt, eq, ofBits, toBits}
-use lib.Ieee.Bits.{ofBits-fits}
+use lib.Ieee.Bits.{ofBits-fits, ofBits-toBits}
 use lib.Ieee.Fits.{nan-fits}
 use lib.ListN.{getD, length, length-map}
 use Rattle.base_words.specs.Choice.{if_then_else_}
@@ -32,7 +32,7 @@ use Rattle.text_read.specs.Text.{reading, textOf}
 use Rattle.text_prefix.proofs.Prefix.{tables-hold}
 use Rattle.text_rows.specs.Tables.{pointsOf}
 use Rattle.text_output.specs.Answer.{called, floatsOf, lent}
-use Rattle.text_unwritten.specs.Pushing.{LinesPush, LinePushes, handedIn, minusZero, normalLoad}
+use Rattle.text_unwritten.specs.Pushing.{LinesPush, handedIn, minusZero, normalLoad}
 use Rattle.text_unwritten.proofs.AsLong.{called-numbers}
 use Rattle.text_unwritten.proofs.AsRead.{prints-read}
 use Rattle.text_unwritten.proofs.Loads.{cell-is, row-printed}
@@ -49,6 +49,13 @@ unfolding printed le lt eq isNan ofBits
 printed-up nan kept up fit low = never (sym up)
 printed-up (inf s) kept up fit low = by-bits (toBits binary32 (inf s)) (at-least-bits (inf s) up fit) low
 printed-up (fin s m e) kept up fit low = by-bits (toBits binary32 (fin s m e)) (at-least-bits (fin s m e) up fit) low
+
+-- and read again it is that number
+read-again : (x : Float) (kept : ℕ) → AtLeast0 x → T (fits binary32 x) → valueOf (printed x kept) ≡ x
+unfolding printed le lt eq isNan ofBits
+read-again nan kept up fit = never (sym up)
+read-again (inf s) kept up fit = ofBits-toBits binary32 (inf s) fit
+read-again (fin s m e) kept up fit = ofBits-toBits binary32 (fin s m e) fit
 
 -- what the call leaves of a night
 of-night : (t : Night) → call.CallPushes (lent t) (called t)
@@ -108,6 +115,10 @@ module _ (s line : List ℕ) (n : ℕ) (t : Night) (e : textOf ofProgram s ≡ r
   new-fits (inl same) = rw same old-fits
   new-fits (inr made) = made .1
 
+  each-load : Pushes old new → AtLeast0 (valueOf (normalLoad t k p)) ⊎ (normalLoad t k p ≡ handedIn t k p)
+  each-load (inl same) = inr (ap (λ (x : Float). printed x (handedIn t k p)) same ∙ old-printed)
+  each-load (inr made) = inl (rw (read-again new (handedIn t k p) (made .0) (made .1)) (made .0))
+
   signed : Pushes old new → minusZero ≤ normalLoad t k p → (normalLoad t k p ≡ minusZero) ⊎ (normalLoad t k p ≡ handedIn t k p)
   signed (inl same) low = inr (ap (λ (x : Float). printed x (handedIn t k p)) same ∙ old-printed)
   signed (inr made) low = inl (printed-up new (handedIn t k p) (made .0) (made .1) low)
@@ -141,9 +152,12 @@ module _ (s line : List ℕ) (n : ℕ) (t : Night) (e : textOf ofProgram s ≡ r
 pub lines-push : LinesPush
 lines-push s line n t e k p in-table of-two =
     let change = became s line n t e k p in-table of-two in
+    let left = new s line n t e k p in-table of-two in
+    let fit = new-fits s line n t e k p in-table of-two change in
     record {
+      each = each-load s line n t e k p in-table of-two change;
       signed = signed s line n t e k p in-table of-two change;
       where-done = λ i among done same printed-there.
-          printed-up (new s line n t e k p in-table of-two) (handedIn t k p) (where-done s line n t e k p in-table of-two i among done same printed-there)
-          (new-fits s line n t e k p in-table of-two change);
+          let up = where-done s line n t e k p in-table of-two i among done same printed-there in
+          (rw (read-again left (handedIn t k p) up fit) up, printed-up left (handedIn t k p) up fit);
     }
