@@ -19,7 +19,7 @@ use Rattle.elem_leaves.specs.declared.Vec2.{Vec2}
 use Rattle.elem_impulse.specs.Block.{aOnly, alone, bOnly, blockChoice, both, candidates, firstPassing, kept, neither, system}
 use Rattle.elem_impulse.specs.Pair.{choice, degraded}
 use Rattle.elem_impulse.specs.Point.{normalImpulse, restitutionImpulse}
-use Rattle.elem_impulse.specs.Pushing.{CandidatesPush, FirstPassing, FlagAboveHalf, Given, InOrder, Made, RulesPush, OfBoth, PairsKeep, Pushes, PushesIfPassing, chosen}
+use Rattle.elem_impulse.specs.Pushing.{CandidatesPush, FirstPassing, FlagAboveHalf, PairInput, InOrder, Made, RulesPush, OfBoth, PairsKeep, Pushes, PushesIfPassing, pairGives}
 use Rattle.elem_impulse.specs.declared.Candidate.{Candidate}
 use Rattle.elem_impulse.specs.declared.PairChoice.{PairChoice}
 
@@ -76,11 +76,11 @@ only-first (c ∷ cs) n r (inl here) = rw (here .0) (here .1)
 only-first (c ∷ cs) n r (inr later) = rw (later .0) (only-first cs n r (later .1))
 
 -- the flag decides
-block-chosen : (p : Given) → (p .flag >f half) ≡ true → chosen p ≡ blockChoice (p .dvel) (p .prev) (p .ra) (p .rb) (p .k12) (p .cfm)
+block-chosen : (p : PairInput) → (p .flag >f half) ≡ true → pairGives p ≡ blockChoice (p .dvel) (p .prev) (p .ra) (p .rb) (p .k12) (p .cfm)
 unfolding choice
 block-chosen p above = sym (take _ above refl)
 
-degraded-chosen : (p : Given) → (p .flag >f half) ≡ false → chosen p ≡ degraded (p .dvel) (p .degraded-dvel) (p .prev) (p .ra) (p .rb) (p .k12) (p .cfm)
+degraded-chosen : (p : PairInput) → (p .flag >f half) ≡ false → pairGives p ≡ degraded (p .dvel) (p .degraded-dvel) (p .prev) (p .ra) (p .rb) (p .k12) (p .cfm)
 unfolding choice
 degraded-chosen p not-above = sym (pass _ not-above refl)
 
@@ -88,7 +88,7 @@ pub flag-above-half : FlagAboveHalf
 unfolding blockChoice kept
 flag-above-half p above =
     let cs = candidates (system (p .dvel) (p .prev) (p .ra) (p .rb) (p .k12) (p .cfm)) in
-    let is : chosen p ≡ firstPassing cs (kept (p .prev)) = block-chosen p above in
+    let is : pairGives p ≡ firstPassing cs (kept (p .prev)) = block-chosen p above in
     record { is-first = rw is (first-is cs (kept (p .prev))); no-other = λ r first. only-first cs (kept (p .prev)) r first ∙ sym is }
 
 -- so the first that passes pushes, or is what stood in for it
@@ -121,21 +121,21 @@ restitutions-push seed total impulse r dvel = by-case ((seed <f zero) && (total 
     by-case false = inl refl
 
 -- a pair, with the flag above a half ..
-block-pushes : (p : Given) → (p .flag >f half) ≡ true → BothPush (p .prev) (chosen p .impulse)
+block-pushes : (p : PairInput) → (p .flag >f half) ≡ true → BothPush (p .prev) (pairGives p .impulse)
 unfolding kept
 block-pushes p above =
     let s = system (p .dvel) (p .prev) (p .ra) (p .rb) (p .k12) (p .cfm) in
-    first-pushes (candidates s) (kept (p .prev)) (chosen p) (candidates-push s) (flag-above-half p above .is-first)
+    first-pushes (candidates s) (kept (p .prev)) (pairGives p) (candidates-push s) (flag-above-half p above .is-first)
 
 -- .. or not: one point after the other
-degraded-pushes : (p : Given) → (p .flag >f half) ≡ false → OfBoth InUnit (p .cfm) → BothPush (p .prev) (chosen p .impulse)
+degraded-pushes : (p : PairInput) → (p .flag >f half) ≡ false → OfBoth InUnit (p .cfm) → BothPush (p .prev) (pairGives p .impulse)
 unfolding degraded
 degraded-pushes p not-above soft = rw (degraded-chosen p not-above) (inr (normals-push (p .cfm .x) _ _ _ (soft .0)), inr (normals-push (p .cfm .y) _ _ _ (soft .1)))
 
-pub pairs-push : (p : Given) → OfBoth InUnit (p .cfm) → BothPush (p .prev) (chosen p .impulse)
+pub pairs-push : (p : PairInput) → OfBoth InUnit (p .cfm) → BothPush (p .prev) (pairGives p .impulse)
 pairs-push p soft = by-case (p .flag >f half) refl
   where
-    by-case : (b : Bool) → (p .flag >f half) ≡ b → BothPush (p .prev) (chosen p .impulse)
+    by-case : (b : Bool) → (p .flag >f half) ≡ b → BothPush (p .prev) (pairGives p .impulse)
     by-case true above = block-pushes p above
     by-case false not-above = degraded-pushes p not-above soft
 

@@ -20,7 +20,7 @@ use Rattle.elem_impulse.specs.declared.PairChoice.{PairChoice}
 use Rattle.elem_impulse.specs.declared.System.{System}
 
 -- what is given to "the bare pair routine", any floats at all, and the two impulses and the branch that it gives
-pub record Given : Type 0 where
+pub record PairInput : Type 0 where
   pub dvel : Vec2
   pub degraded-dvel : Float
   pub prev : Vec2
@@ -30,8 +30,8 @@ pub record Given : Type 0 where
   pub flag : Float
   pub cfm : Vec2
 
-abbrev pub chosen : Given → PairChoice
-chosen p = choice (p .dvel) (p .degraded-dvel) (p .prev) (p .ra) (p .rb) (p .k12) (p .flag) (p .cfm)
+abbrev pub pairGives : PairInput → PairChoice
+pairGives p = choice (p .dvel) (p .degraded-dvel) (p .prev) (p .ra) (p .rb) (p .k12) (p .flag) (p .cfm)
 
 -- of the numbers of points a and b
 abbrev pub OfBoth : (Float → Type 0) → Vec2 → Type 0
@@ -40,7 +40,7 @@ OfBoth P n = P (n .x) × P (n .y)
 -- "with both previous normal impulses not below 0 and each cfm in (0, 1], any other floats .. make the bare pair routine give impulses
 -- not below 0": P is that, or the stronger form
 abbrev pub PairsKeep : (Float → Type 0) → Type 0
-PairsKeep P = (p : Given) → OfBoth P (p .prev) → OfBoth InUnit (p .cfm) → OfBoth P (chosen p .impulse)
+PairsKeep P = (p : PairInput) → OfBoth P (p .prev) → OfBoth InUnit (p .cfm) → OfBoth P (pairGives p .impulse)
 
 -- what lies behind it, with nothing asked of the old impulse: the new one is the old one, or a number of the format that is 0 or above
 abbrev pub Made : Float → Type 0
@@ -52,8 +52,8 @@ Pushes old new = (new ≡ old) ⊎ Made new
 pub record RulesPush : Type 0 where
   pub pairs-not-below : PairsKeep NotBelow0
   pub pairs-at-least : PairsKeep AtLeast0
-  pub pairs : (p : Given) → OfBoth InUnit (p .cfm)
-      → Pushes (p .prev .x) (chosen p .impulse .x) × Pushes (p .prev .y) (chosen p .impulse .y)
+  pub pairs : (p : PairInput) → OfBoth InUnit (p .cfm)
+      → Pushes (p .prev .x) (pairGives p .impulse .x) × Pushes (p .prev .y) (pairGives p .impulse .y)
   -- one point: kind 1 whatever the old impulse was, kind 3 whatever all numbers are
   pub normals : (cfm impulse r dvel : Float) → InUnit cfm → Made (normalImpulse cfm impulse r dvel)
   pub restitutions : (seed total impulse r dvel : Float) → Pushes impulse (restitutionImpulse seed total impulse r dvel)
@@ -65,16 +65,16 @@ FirstPassing (c ∷ cs) none-passed r = ((c .passes ≡ true) × (r ≡ c .choic
 
 -- "with flag above 0.5 they are exactly the first candidate that passes its tests, or the previous pair if none does": that, and nothing else. The
 -- candidates and their tests are those of Block.antt
-abbrev pub IsFirst : Given → PairChoice → Type 0
+abbrev pub IsFirst : PairInput → PairChoice → Type 0
 IsFirst p =
     FirstPassing (candidates (system (p .dvel) (p .prev) (p .ra) (p .rb) (p .k12) (p .cfm))) (record { branch = Kept; impulse = p .prev })
 
-pub record ExactlyFirst (p : Given) : Type 0 where
-  pub is-first : IsFirst p (chosen p)
-  pub no-other : (r : PairChoice) → IsFirst p r → r ≡ chosen p
+pub record ExactlyFirst (p : PairInput) : Type 0 where
+  pub is-first : IsFirst p (pairGives p)
+  pub no-other : (r : PairChoice) → IsFirst p r → r ≡ pairGives p
 
 abbrev pub FlagAboveHalf : Type 0
-FlagAboveHalf = (p : Given) → (p .flag >f half) ≡ true → ExactlyFirst p
+FlagAboveHalf = (p : PairInput) → (p .flag >f half) ≡ true → ExactlyFirst p
 
 -- they stand in document 01's order: both, a only, b only, none
 abbrev pub branches : List Candidate → List Branch

@@ -9,7 +9,7 @@ use Rattle.elem_impulse.specs.Pair.{choice, degraded}
 use Rattle.elem_impulse.specs.Point.{normalImpulse, restitutionImpulse}
 use Rattle.elem_normal.specs.Normal.{normalWith, normalMoved, normal, restitution}
 use Rattle.elem_normal.specs.Pair.{pair, pairChoice, pairDvel, pairMoved}
-use Rattle.elem_marked.specs.Numbers.{num}
+use Rattle.elem_leaves.specs.Numbers.{num}
 use Rattle.elem_marked.specs.Marks.{Marked, all, outcome, at-rest}
 use Rattle.elem_marked.specs.Errors.{DegradedA, DegradedB, LinFirst, ZeroPush, point, up, ones, none, sinking, tiny, b-in-pair, b-by-kind-1}
 

@@ -11,7 +11,8 @@ use Rattle.elem_velocity.specs.declared.Vels.{Vels}
 use Rattle.elem_normal.specs.Normal.{normal}
 use Rattle.elem_normal.specs.Pair.{pair, pairDvel}
 use Rattle.elem_normal.specs.declared.ContactConstraintNormalPart.{ContactConstraintNormalPart}
-use Rattle.elem_marked.specs.Numbers.{num, minus, part}
+use Rattle.elem_leaves.specs.Numbers.{minus, num}
+use Rattle.elem_marked.specs.Parts.{part}
 
 -- A degraded pair gives point a the impulse that kind 1 gives it, bit for bit
 abbrev pub DegradedA : Type 0

@@ -1,4 +1,4 @@
-pub mod Numbers
+pub mod Parts
 pub mod Marks
 pub mod Errors
 pub mod Needed

@@ -16,7 +16,8 @@ use Rattle.elem_impulse.specs.declared.PairChoice.{PairChoice}
 use Rattle.elem_impulse.specs.Pair.{choice}
 use Rattle.elem_impulse.specs.Point.{normalImpulse}
 use Rattle.elem_normal.specs.Normal.{restitution}
-use Rattle.elem_marked.specs.Numbers.{num, minus, part}
+use Rattle.elem_leaves.specs.Numbers.{minus, num}
+use Rattle.elem_marked.specs.Parts.{part}
 
 -- what a row gives the definitions, and what it says of the result
 pub data Given : Type 0 where

@@ -7,11 +7,11 @@ use Rattle.elem_leaves.specs.Floats.{below0, one}
 use Rattle.elem_leaves.specs.Leaves.{vec}
 use Rattle.elem_leaves.specs.Signs.{InUnit}
 use Rattle.elem_leaves.specs.declared.Vec2.{Vec2}
-use Rattle.elem_impulse.specs.Pushing.{Given, chosen}
-use Rattle.elem_marked.specs.Numbers.{num, minus}
+use Rattle.elem_impulse.specs.Pushing.{PairInput, pairGives}
+use Rattle.elem_leaves.specs.Numbers.{minus, num}
 
 -- M6 with other impulses and softness: r 1 and 1, k12 −2, dvel (−2, −2); the degraded dvel is 0
-abbrev pub pair-with : (flag : Float) (prev cfm : Vec2) → Given
+abbrev pub pair-with : (flag : Float) (prev cfm : Vec2) → PairInput
 pair-with flag prev cfm = record {
   dvel = vec (minus 2) (minus 2);
   degraded-dvel = num 0;
@@ -27,11 +27,11 @@ abbrev pub ones : Vec2
 ones = vec (num 1) (num 1)
 
 -- the new impulses of points a and b
-abbrev pub at-a : Given → Float
-at-a p = chosen p .impulse .x
+abbrev pub at-a : PairInput → Float
+at-a p = pairGives p .impulse .x
 
-abbrev pub at-b : Given → Float
-at-b p = chosen p .impulse .y
+abbrev pub at-b : PairInput → Float
+at-b p = pairGives p .impulse .y
 
 pub record Needed : Type 0 where
   -- a previous impulse below 0: where no candidate passes it is kept, and pulls

@@ -1,15 +1,7 @@
--- Numbers and parts for worked examples. Assumes nothing.
-use Prim.Native.Nat.{ℕ}
-use lib.IntN.{pos}
-use lib.Ieee.{Float, binary32, neg, ofInt}
+-- Parts for worked examples. Assumes nothing.
+use lib.Ieee.{Float}
+use Rattle.elem_leaves.specs.Numbers.{num}
 use Rattle.elem_normal.specs.declared.ContactConstraintNormalPart.{ContactConstraintNormalPart}
-
--- the f32 that is the whole number n, and its negative
-abbrev pub num : ℕ → Float
-num n = ofInt binary32 (pos n)
-
-abbrev pub minus : ℕ → Float
-minus n = neg (num n)
 
 -- a normal part that turns no body; t1 is what the first body's turning adds to its dvel
 abbrev pub part : (t1 rhs impulse accumulator r cfm seed : Float) → ContactConstraintNormalPart
