@@ -30,16 +30,12 @@ module _ (bodies : List Float) (body : ℕ) (v : SolverVel) where
   unfolding putVel
   vel-past real h = pick.pass _ (ne-eqb body 65535 real) (row-past bodyWidth body bodies (λ _. velRow v) h)
 
--- impulses: into their row; where there is none
+-- impulses: into their row
 module _ (floats : List Float) (k kind : ℕ) (c : Contact) where
   pub impulses-put : {back : List Float} → k < rows floatsWidth floats → back ≡ putContact kind c (take (k * floatsWidth + floatsWidth - k * floatsWidth) (drop (k * floatsWidth) floats))
       → putMid (k * floatsWidth) (k * floatsWidth + floatsWidth - k * floatsWidth) floats back ≡ putImpulses floats k kind c
   unfolding putImpulses
   impulses-put h e = row-written floatsWidth k floats (putContact kind c) h e
-
-  pub impulses-past : rows floatsWidth floats ≤ k → floats ≡ putImpulses floats k kind c
-  unfolding putImpulses
-  impulses-past h = row-past floatsWidth k floats (putContact kind c) h
 
 -- an answer: into its row; where there is none
 module _ (room : List ℕ) (i : ℕ) (a : Answer) where

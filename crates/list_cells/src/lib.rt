@@ -1,5 +1,5 @@
-// What a step writes into the lent stretches, cell by cell, and nothing else. A row that a table does
-// not have is not written, so no public function here asks anything of its caller.
+// What a step writes into the lent stretches, cell by cell, and nothing else. The engine knows that the rows of a step's
+// bodies and of its contact are there; an answer's row need not be, and then it is not written.
 use base_places::ANSWER_WIDTH;
 use base_places::BODY_WIDTH;
 use base_places::Cell;
@@ -15,6 +15,7 @@ use step_kinds::stores;
 ghost use mathlib.Core.Path.{_≡_};
 ghost use Prim.Native.Nat.{_<_};
 ghost use lib.ListN.{length};
+ghost use Rattle.base_rows.specs.Rows.{rows};
 ghost use Rattle.base_places.specs.Places.{answerWidth, bodyWidth, floatsWidth, place, pointWidth};
 ghost use Rattle.step_contact.specs.Cells.{inCell};
 ghost use Rattle.list_cells.specs.Cells.{answerRow, putAnswer, putContact, putIf, putImpulses};
@@ -35,18 +36,16 @@ fn store_velocity(s: &mut [f32], v: SolverVel)
     s[2] = v.angular;
 }
 
-// A body's velocity into its row. The floor is never written.
-pub fn put_velocity(bodies: &mut [f32], body: u16, v: SolverVel)
+// A body's velocity into its row, which is there. The floor is never written.
+pub fn put_velocity_in(bodies: &mut [f32], body: u16, v: SolverVel)
+    requires { ⌜ ((body ≡ 65535 → ⊥) → body < rows bodyWidth (now bodies)) ⌝ }
     ensures { λ _. ⌜ now (bodies .exit) ≡ putVel (now (bodies .entry)) body v ⌝ }
 {
     if body == FLOOR {
         return;
     }
-    let k = body as usize;
-    if k < bodies.len() / BODY_WIDTH {
-        let i = k * BODY_WIDTH;
-        store_velocity(&mut bodies[i..i + BODY_WIDTH], v);
-    }
+    let i = (body as usize) * BODY_WIDTH;
+    store_velocity(&mut bodies[i..i + BODY_WIDTH], v);
 }
 
 // Place i takes x if it is to be stored.
@@ -90,14 +89,13 @@ fn store_contact(s: &mut [f32], kind: u16, c: Contact)
     store_point(&mut s[POINT_B..FLOATS_WIDTH], kind, head, 1, b);
 }
 
-// What a step of a kind stores, into its cells of contact k's row.
-pub fn put_impulses(floats: &mut [f32], k: usize, kind: u16, c: Contact)
+// What a step of a kind stores, into its cells of contact k's row, which is there.
+pub fn put_impulses_in(floats: &mut [f32], k: usize, kind: u16, c: Contact)
+    requires { ⌜ k < rows floatsWidth (now floats) ⌝ }
     ensures { λ _. ⌜ now (floats .exit) ≡ putImpulses (now (floats .entry)) k kind c ⌝ }
 {
-    if k < floats.len() / FLOATS_WIDTH {
-        let i = k * FLOATS_WIDTH;
-        store_contact(&mut floats[i..i + FLOATS_WIDTH], kind, c);
-    }
+    let i = k * FLOATS_WIDTH;
+    store_contact(&mut floats[i..i + FLOATS_WIDTH], kind, c);
 }
 
 fn store_answer(s: &mut [u16], a: Answer)

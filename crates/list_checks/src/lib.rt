@@ -7,19 +7,25 @@ use base_places::MOST_CONTACTS;
 use base_places::MOST_STEPS;
 use base_places::NUMBERS_WIDTH;
 use base_places::STEP_WIDTH;
-use list_tables::Step;
 use list_tables::step_at;
 use step_shape::kind_above;
+ghost use Prim.Native.Nat.{max};
 ghost use mathlib.Core.Path.{_≡_};
 ghost use Rattle.base_refusals.specs.Refusals.{first};
 ghost use Rattle.list_rules.specs.Sweep.{tables};
-ghost use Rattle.list_checks.specs.Checks.{faulty, someFaulty, someUneven, tooMany};
-ghost use Rattle.list_checks.specs.Checks.{wholeCall, wrongSizes};
+ghost use Rattle.list_checks.specs.Checks.{someUneven, tooMany, wholeCall, wrongSizes};
+ghost use Rattle.list_checks.specs.LargestOf.{largest};
 
 // What is wrong with a step of a list, so that the whole list is refused.
 pub enum Fault {
     NoContact,
     KindAbove,
+}
+
+// The largest contact number and the largest kind of a list; 0 and 0 where it is empty.
+pub struct Most {
+    pub contact: u16,
+    pub kind: u16,
 }
 
 fn too_many(bodies: &[f32], numbers: &[u16], floats: &[f32], steps: &[u16]) -> bool
@@ -50,29 +56,28 @@ fn wrong_sizes(bodies: &[f32], numbers: &[u16], floats: &[f32], steps: &[u16], r
         | differ
 }
 
-fn faulty(fault: Fault, contacts: usize, s: Step) -> bool
-    ensures { λ r. ⌜ r ≡ faulty fault contacts s ⌝ }
+// The larger of two numbers.
+fn larger(a: u16, b: u16) -> u16
+    ensures { λ r. ⌜ r ≡ max a b ⌝ }
 {
-    match fault {
-        Fault::NoContact => !((s.contact as usize) < contacts),
-        Fault::KindAbove => kind_above(s.kind),
-    }
+    if a < b { b } else { a }
 }
 
-// Some step of the list has the fault.
-fn some_faulty(fault: Fault, contacts: usize, steps: &[u16]) -> bool
-    ensures { λ r. ⌜ r ≡ someFaulty fault contacts (now (steps .entry)) ⌝ }
+// One walk over the list for 2 and 3, without a way out, so that the compiler makes vectors of it.
+fn largest(steps: &[u16]) -> Most
+    ensures { λ r. ⌜ r ≡ largest (now (steps .entry)) ⌝ }
 {
     let n = steps.len() / STEP_WIDTH;
+    let mut contact = 0;
+    let mut kind = 0;
     let mut i = 0;
     while i < n {
         let s = step_at(steps, i);
-        if faulty(fault, contacts, s) {
-            return true;
-        }
+        contact = larger(contact, s.contact);
+        kind = larger(kind, s.kind);
         i += 1;
     }
-    false
+    Most { contact, kind }
 }
 
 // The number that refuses the call, or 0.
@@ -89,10 +94,14 @@ pub fn whole_call(
     if wrong_sizes(bodies, numbers, floats, steps, room) {
         return 1;
     }
-    if some_faulty(Fault::NoContact, contacts, steps) {
+    let most = largest(steps);
+    let some = 0 < steps.len() / STEP_WIDTH;
+    let no_contact = some & !((most.contact as usize) < contacts);
+    let no_kind = some & kind_above(most.kind);
+    if no_contact {
         return 2;
     }
-    if some_faulty(Fault::KindAbove, contacts, steps) {
+    if no_kind {
         return 3;
     }
     if room.len() / ANSWER_WIDTH < steps.len() / STEP_WIDTH {

@@ -20,7 +20,7 @@ use step_contact::ContactHead;
 use step_contact::ContactPoint;
 use step_contact::FLOOR;
 ghost use mathlib.Core.Path.{_≡_};
-ghost use Prim.Native.Nat.{min};
+ghost use Prim.Native.Nat.{min, _<_};
 ghost use lib.ListN.{length};
 ghost use Rattle.base_places.specs.Places.{bodyWidth, floatsWidth, headWidth, normalWidth, numbersWidth};
 ghost use Rattle.base_places.specs.Places.{pointWidth, stepWidth, tangentWidth};
@@ -44,17 +44,27 @@ fn velocity_of(s: &[f32]) -> SolverVel
     }
 }
 
-// The velocity of a body; the floor rests, and so does a number without a row.
+// The velocity of a body that is the floor, which rests, or has its row.
+pub fn velocity_in(bodies: &[f32], body: u16) -> SolverVel
+    requires { ⌜ ((body ≡ 65535 → ⊥) → body < rows bodyWidth (now bodies)) ⌝ }
+    ensures { λ r. ⌜ r ≡ velAt (now (bodies .entry)) body ⌝ }
+{
+    if body == FLOOR {
+        return SolverVel::zero();
+    }
+    let i = (body as usize) * BODY_WIDTH;
+    velocity_of(&bodies[i..i + BODY_WIDTH])
+}
+
+// The velocity of any body; a number without a row rests too.
 pub fn velocity_at(bodies: &[f32], body: u16) -> SolverVel
     ensures { λ r. ⌜ r ≡ velAt (now (bodies .entry)) body ⌝ }
 {
     if body == FLOOR {
         return SolverVel::zero();
     }
-    let k = body as usize;
-    if k < bodies.len() / BODY_WIDTH {
-        let i = k * BODY_WIDTH;
-        return velocity_of(&bodies[i..i + BODY_WIDTH]);
+    if (body as usize) < bodies.len() / BODY_WIDTH {
+        return velocity_in(bodies, body);
     }
     SolverVel::zero()
 }
@@ -134,6 +144,17 @@ fn contact_of(numbers: &[u16], s: &[f32]) -> Contact
     Contact { head, a, b }
 }
 
+// Contact k, which has its row in both stretches.
+pub fn contact_in(numbers: &[u16], floats: &[f32], k: usize) -> Contact
+    requires { ⌜ k < rows numbersWidth (now numbers) ⌝ }
+    requires { ⌜ k < rows floatsWidth (now floats) ⌝ }
+    ensures { λ r. ⌜ r ≡ contactAt (now (numbers .entry)) (now (floats .entry)) k ⌝ }
+{
+    let i = k * NUMBERS_WIDTH;
+    let j = k * FLOATS_WIDTH;
+    contact_of(&numbers[i..i + NUMBERS_WIDTH], &floats[j..j + FLOATS_WIDTH])
+}
+
 // Contact k, if it has its row in both stretches; else the zero contact.
 pub fn contact_at(numbers: &[u16], floats: &[f32], k: usize) -> Contact
     ensures { λ r. ⌜ r ≡ contactAt (now (numbers .entry)) (now (floats .entry)) k ⌝ }
@@ -144,9 +165,7 @@ pub fn contact_at(numbers: &[u16], floats: &[f32], k: usize) -> Contact
     if floats.len() / FLOATS_WIDTH <= k {
         return Contact::zero();
     }
-    let i = k * NUMBERS_WIDTH;
-    let j = k * FLOATS_WIDTH;
-    contact_of(&numbers[i..i + NUMBERS_WIDTH], &floats[j..j + FLOATS_WIDTH])
+    contact_in(numbers, floats, k)
 }
 
 fn step_of(s: &[u16]) -> Step

@@ -1,31 +1,20 @@
--- A step on contact k as it is read, kind by kind, and that nothing has to be seen to on the floor's side: it reads as rest, and is not
+-- A step on the tables by what it was tried to, and that nothing has to be seen to on the floor's side: it reads as rest, and is not
 -- written. Assumes nothing.
-use Prim.Native.Nat.{ℕ, _≤_}
-use mathlib.Core.Bool.{Bool, true, false, _||_}
-use mathlib.Core.List.{List, [], _∷_}
+use Prim.Native.Nat.{ℕ}
+use mathlib.Core.Bool.{Bool, true, false}
+use mathlib.Core.List.{List}
 use mathlib.Core.Path.{_≡_, refl, sym, ap, _∙_}
-use borrow.Author.Tests.{eq-eqb, eqb-true, ne-eqb}
-use lib.Dec.{eqb, ltb}
+use lib.Dec.{ltb}
 use lib.Ieee.{Float}
-use lib.ListN.{length}
 use Rattle.base_places.specs.Places.{bodyWidth, floatsWidth}
 use Rattle.base_words.specs.Choice.{if_then_else_}
-use Rattle.base_words.proofs.Pick.{never}
-use Rattle.base_words.proofs.Said.{none-l, none-r}
-use Rattle.base_refusals.specs.Refusals.{Condition, _when_}
 use Rattle.elem_velocity.specs.Velocity.{rest}
 use Rattle.elem_velocity.specs.declared.SolverVel.{SolverVel}
 use Rattle.elem_velocity.specs.declared.Vels.{Vels}
 use Rattle.step_contact.specs.Contact.{isFloor}
 use Rattle.step_contact.specs.declared.Contact.{Contact}
 use Rattle.step_contact.specs.declared.ContactHead.{ContactHead}
-use Rattle.step_kinds.specs.Table.{kinds, routine}
-use Rattle.step_kinds.proofs.NoKind.{does-nothing}
-use Rattle.step_kinds.specs.declared.ContactSolved.{ContactSolved}
-use Rattle.step_shape.specs.Shape.{kindAbove, pairOfOne}
-use Rattle.step_values.specs.Values.{notFiniteVels, unwritable}
-use Rattle.step_rules.proofs.Chain.{hit, miss}
-use Rattle.step_rules.specs.Step.{answer, asRead, asWritten, branch, checks, firstOr, reads, step, tried, writes, writtenVels}
+use Rattle.step_rules.specs.Step.{answer, asRead, asWritten, branch, reads, step, tried, writes, writtenVels}
 use Rattle.step_rules.specs.declared.Outcome.{Outcome}
 use Rattle.step_rules.specs.declared.Outcome.the-variants.{Refused, Done}
 use Rattle.base_rows.specs.Rows.{rows}
@@ -34,58 +23,8 @@ use Rattle.list_tables.specs.declared.Step.{Step}
 use Rattle.list_tables.proofs.Floats.{floor-rests}
 use Rattle.list_cells.specs.Cells.{putVel}
 use Rattle.list_cells.specs.declared.Answer.{Answer}
-use Rattle.quick_flaws.specs.Flaws.{askedKnowing, flaw, holdsKnowing, triedKnowing}
-use Rattle.quick_flaws.proofs.Knowing.{judged-by-flaw}
-use Rattle.list_rules.specs.Sweep.{Tables, answered, itsContact, ifThere, newBodies, newFloats, outcome, stepOn, tables, velsAt}
-
--- the routine of kind n, of contact k as it was read
-pub of-kind : (kind : ℕ) (numbers : List ℕ) (floats : List Float) (k : ℕ) (v : Vels) (n : ℕ) {c : Contact} {r : ContactSolved}
-    → c ≡ contactAt numbers floats k → kind ≡ n → r ≡ routine n c v → r ≡ routine kind (contactAt numbers floats k) v
-of-kind kind numbers floats k v n read e made = rw (← read, e) made
-
--- a number past the table of kinds does nothing with it
-pub of-none : (kind : ℕ) (numbers : List ℕ) (floats : List Float) (k : ℕ) (v : Vels) {c : Contact} → c ≡ contactAt numbers floats k
-    → length kinds ≤ kind → record { branch = 0; contact = c; vels = v } ≡ routine kind (contactAt numbers floats k) v
-of-none kind numbers floats k v read past = of-kind kind numbers floats k v kind read refl (does-nothing kind past _ v)
-
--- 7, of the contact as it was read
-pub as-pair : (kind : ℕ) {c d : Contact} {r : Bool} → c ≡ d → r ≡ pairOfOne kind (c .head) → r ≡ pairOfOne kind (d .head)
-as-pair kind e f = rw (← e) f
-
--- 8, of the contact by its flaw, or of the velocities
-pub or-lost : (f : ℕ) (v : Vels) {r : Bool} → r ≡ notFiniteVels v → (eqb f 8 || r) ≡ (eqb f 8 || notFiniteVels v)
-or-lost f v e = rw e
-
--- 5 and 6, by the flaw, in one test
-module _ (f : ℕ) (cs : List Condition) (made : ContactSolved) where
-  pub one-of-two : (eqb f 5 || eqb f 6) ≡ true → Refused f ≡ firstOr (5 when eqb f 5 ∷ 6 when eqb f 6 ∷ cs) made
-  unfolding firstOr
-  one-of-two e = by-case (eqb f 5) (eqb f 6) refl refl e
-    where
-      by-case : (five six : Bool) → eqb f 5 ≡ five → eqb f 6 ≡ six → (five || six) ≡ true
-          → Refused f ≡ (if five then Refused 5 else if six then Refused 6 else firstOr cs made)
-      by-case true six p q e = ap (λ (n : ℕ). Refused n) (eqb-true f 5 p)
-      by-case false true p q e = ap (λ (n : ℕ). Refused n) (eqb-true f 6 q)
-      by-case false false p q e = never (sym e)
-
-  pub neither-of-two : {o : Outcome} → (eqb f 5 || eqb f 6) ≡ false → o ≡ firstOr cs made → o ≡ firstOr (5 when eqb f 5 ∷ 6 when eqb f 6 ∷ cs) made
-  unfolding firstOr
-  neither-of-two none later = rw (none-l (eqb f 5) (eqb f 6) none, none-r (eqb f 5) (eqb f 6) none) later
-
--- the end of the list, where nothing before 9 holds: 9, or what the routine makes
-module _ (c : Contact) (kind : ℕ) (v : Vels) (f : ℕ) {d : Contact} {above paired lost : Bool} {o : Outcome} (e3 : above ≡ kindAbove kind) (ec : d ≡ c)
-    (e7 : paired ≡ pairOfOne kind (d .head)) (e8 : lost ≡ notFiniteVels v) (n3 : above ≡ false) (n5 : (eqb f 5 || eqb f 6) ≡ false) (n7 : paired ≡ false)
-    (n8 : (eqb f 8 || lost) ≡ false) where
-  passed-by : o ≡ firstOr (9 when eqb f 9 ∷ 10 when unwritable kind (routine kind c v) ∷ []) (routine kind c v) → o ≡ triedKnowing c kind v f
-  unfolding triedKnowing askedKnowing checks holdsKnowing
-  passed-by later =
-      miss 3 _ _ e3 n3 (neither-of-two f _ _ n5 (miss 7 _ _ (as-pair kind ec e7) n7 (miss 8 _ _ (or-lost f v e8) n8 later)))
-
-  pub is-nine : f ≡ 9 → o ≡ Refused 9 → o ≡ triedKnowing c kind v f
-  is-nine nine is = passed-by (is ∙ hit 9 _ _ refl (eq-eqb f 9 nine))
-
-  pub worked-on : (f ≡ 9 → ⊥) → o ≡ firstOr (10 when unwritable kind (routine kind c v) ∷ []) (routine kind c v) → o ≡ triedKnowing c kind v f
-  worked-on other made = passed-by (miss 9 _ _ refl (ne-eqb f 9 other) made)
+use Rattle.list_rules.specs.Sweep.{answered, itsContact, ifThere, newBodies, newFloats, outcome, stepOn, tables, velsAt}
+use Rattle.quick_step.specs.Trusted.{turnedAway}
 
 -- the floor's side
 reads-itself : (bodies : List Float) (body : ℕ) → reads body (velAt bodies body) ≡ velAt bodies body
@@ -96,7 +35,7 @@ reads-itself bodies body = by-case (isFloor body) refl
     by-case true e = sym (floor-rests bodies body e)
     by-case false e = refl
 
-read-itself : (bodies : List Float) (h : ContactHead) → asRead h (velsAt bodies h) ≡ velsAt bodies h
+pub read-itself : (bodies : List Float) (h : ContactHead) → asRead h (velsAt bodies h) ≡ velsAt bodies h
 unfolding asRead velsAt
 read-itself bodies h = rw (reads-itself bodies (h .body1), reads-itself bodies (h .body2))
 
@@ -135,28 +74,25 @@ module _ (h : ContactHead) (v : Vels) where
 
 -- a step: read, tried, asked whether its contact is there, written, answered
 module _ (bodies : List Float) (numbers : List ℕ) (floats : List Float) (s : Step) where
-  abbrev its : Contact
+  abbrev pub its : Contact
   its = contactAt numbers floats (s .contact)
 
-  abbrev vels : Vels
+  abbrev pub vels : Vels
   vels = velsAt bodies (its .head)
 
-  abbrev raw : Outcome
-  raw = ifThere (rows floatsWidth floats) s (triedKnowing its (s .kind) vels (flaw (rows bodyWidth bodies) its))
+  abbrev pub raw : Outcome
+  raw = ifThere (rows floatsWidth floats) s (tried its (s .kind) vels (rows bodyWidth bodies))
 
   outcome-is : outcome s (tables bodies numbers floats) ≡ asWritten (its .head) vels raw
   unfolding outcome itsContact step
   outcome-is =
-      ap (λ (x : Outcome). ifThere (rows floatsWidth floats) s (asWritten (its .head) vels x))
-      (ap (λ (w : Vels). tried its (s .kind) w (rows bodyWidth bodies)) (read-itself bodies (its .head)) ∙ sym (judged-by-flaw (rows bodyWidth bodies) its (s .kind) vels))
-      ∙ if-there-as-made (its .head) vels (rows floatsWidth floats) s (triedKnowing its (s .kind) vels (flaw (rows bodyWidth bodies) its))
+      ap (λ (w : Vels). ifThere (rows floatsWidth floats) s (asWritten (its .head) vels (tried its (s .kind) w (rows bodyWidth bodies)))) (read-itself bodies (its .head))
+      ∙ if-there-as-made (its .head) vels (rows floatsWidth floats) s (tried its (s .kind) vels (rows bodyWidth bodies))
 
-  pub stepped : {c : Contact} {v : Vels} {f : ℕ} {t o : Outcome} {b l : List Float} {a : Answer} → f ≡ flaw (rows bodyWidth bodies) its → c ≡ its
-      → v ≡ velsAt bodies (c .head) → t ≡ triedKnowing its (s .kind) v f → o ≡ ifThere (rows floatsWidth floats) s t → b ≡ newBodies (c .head) o bodies
-      → l ≡ newFloats s o floats → a ≡ answered o
+  pub stepped : {o : Outcome} {b l : List Float} {a : Answer} → o ≡ raw → b ≡ newBodies (its .head) o bodies → l ≡ newFloats s o floats → a ≡ answered o
       → record { answer = a; after = tables b numbers l } ≡ stepOn s (tables bodies numbers floats)
   unfolding stepOn itsContact
-  stepped ef ec ev et eo eb el ea =
+  stepped eo eb el ea =
       rw (
         outcome-is,
         answered-as-made (its .head) vels raw,
@@ -164,3 +100,7 @@ module _ (bodies : List Float) (numbers : List ℕ) (floats : List Float) (s : S
         floats-as-made (its .head) vels s raw floats,
       )
       (cc)
+
+  pub away : (n : ℕ) → Refused n ≡ raw → turnedAway n (tables bodies numbers floats) ≡ stepOn s (tables bodies numbers floats)
+  unfolding newBodies newFloats answered
+  away n e = stepped e refl refl refl

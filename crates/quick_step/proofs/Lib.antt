@@ -1,1 +1,5 @@
+pub mod There
 pub mod AsRead
+pub mod Looked
+pub mod Written
+pub mod Worked

@@ -1,47 +1,29 @@
--- Flags stay right: a step changes no contact but its own, and leaves that one vouched for or as it was. Assumes nothing.
+-- Flags stay right: a step leaves each contact as it was or without a flaw, and each body's velocity as it was or finite. Assumes nothing.
 use Prim.Native.Nat.{ℕ, zero, suc, _≤_}
 use native.Mathlib.Nat.{le-of-suc-le-suc, not-suc-le-zero}
-use borrow.Author.Tests.{eqb-false, eqb-true}
+use native.Mathlib.Decide.{ℕ-discrete}
 use mathlib.Core.Bool.{Bool, true, false}
 use mathlib.Core.List.{List, [], _∷_}
-use mathlib.Core.Logic.{_≢_, _⊎_, inl, inr}
+use mathlib.Core.Logic.{_≢_}
 use mathlib.Core.Path.{_≡_, refl, sym, ap, _∙_}
-use lib.Dec.{eqb}
 use lib.ListN.{length, replicate, set}
-use Rattle.base_places.specs.Places.{bodyWidth}
-use Rattle.base_words.specs.Choice.{if_then_else_}
 use Rattle.base_words.proofs.Pick.{never}
-use Rattle.step_contact.specs.declared.Contact.{Contact}
-use Rattle.base_rows.specs.Rows.{rows}
-use Rattle.list_tables.specs.Tables.{contactAt}
+use Rattle.list_rules.specs.Sweep.{Tables, stepOn}
 use Rattle.list_tables.specs.declared.Step.{Step}
 use Rattle.list_cells.specs.declared.Answer.{Answer}
 use Rattle.base_order.specs.OneByOne.{Stepped}
-use Rattle.quick_flaws.specs.Flaws.{flaw, vouched}
-use Rattle.quick_flaws.proofs.Stays.{stays-vouched}
-use Rattle.list_rules.specs.Sweep.{Tables, itsContact, outcome, stepOn, velsAt}
-use Rattle.list_rules.proofs.Done.{done-there}
-use Rattle.list_rules.proofs.Rows.{after-bodies, bodies-as-many}
-use Rattle.list_readback.specs.ReadBack.{Own}
-use Rattle.list_readback.proofs.ReadBack.{each-contact}
-use Rattle.quick_sweep.specs.Flags.{Vouching, flagged, flawAt, raised, vouchedAt}
+use Rattle.quick_step.specs.Trusted.{Looked, Trusted, turnedAway}
+use Rattle.quick_sweep.proofs.Stays.{stays-trusted}
+use Rattle.quick_sweep.specs.Flags.{Trusting, flagged, raised}
 
--- a flag that was put is as it was put, where there is one
-own-flag : (flags : List ℕ) (k : ℕ) (up : Bool) → raised (flagged flags k up) k ≡ true → up ≡ true
+-- a flag that was put up leaves every other as it was
+other-flag : (flags : List ℕ) (k j : ℕ) → j ≢ k → raised (flagged flags k) j ≡ raised flags j
 unfolding raised flagged
-own-flag [] k up e = never (sym e)
-own-flag (f ∷ flags) zero true e = refl
-own-flag (f ∷ flags) zero false e = e
-own-flag (f ∷ flags) (suc k) up e = own-flag flags k up e
-
--- every other is as it was
-other-flag : (flags : List ℕ) (k j : ℕ) (up : Bool) → j ≢ k → raised (flagged flags k up) j ≡ raised flags j
-unfolding raised flagged
-other-flag [] k j up ne = refl
-other-flag (f ∷ flags) zero zero up ne = absurd (ne refl)
-other-flag (f ∷ flags) zero (suc j) up ne = refl
-other-flag (f ∷ flags) (suc k) zero up ne = refl
-other-flag (f ∷ flags) (suc k) (suc j) up ne = other-flag flags k j up (λ e. ne (ap suc e))
+other-flag [] k j ne = refl
+other-flag (f ∷ flags) zero zero ne = absurd (ne refl)
+other-flag (f ∷ flags) zero (suc j) ne = refl
+other-flag (f ∷ flags) (suc k) zero ne = refl
+other-flag (f ∷ flags) (suc k) (suc j) ne = other-flag flags k j (λ e. ne (ap suc e))
 
 -- a contact without a flag has none raised, and none is put
 pub no-flag : (flags : List ℕ) (k : ℕ) → length flags ≤ k → false ≡ raised flags k
@@ -50,67 +32,35 @@ no-flag [] k past = refl
 no-flag (f ∷ flags) zero past = absurd (not-suc-le-zero past)
 no-flag (f ∷ flags) (suc k) past = no-flag flags k (le-of-suc-le-suc past)
 
-pub none-put : (flags : List ℕ) (k : ℕ) (up : Bool) → length flags ≤ k → flags ≡ flagged flags k up
+pub none-put : (flags : List ℕ) (k : ℕ) → length flags ≤ k → flags ≡ flagged flags k
 unfolding flagged
-none-put [] k up past = refl
-none-put (f ∷ flags) zero up past = absurd (not-suc-le-zero past)
-none-put (f ∷ flags) (suc k) up past = ap (λ (l : List ℕ). f ∷ l) (none-put flags k up (le-of-suc-le-suc past))
+none-put [] k past = refl
+none-put (f ∷ flags) zero past = absurd (not-suc-le-zero past)
+none-put (f ∷ flags) (suc k) past = ap (λ (l : List ℕ). f ∷ l) (none-put flags k (le-of-suc-le-suc past))
 
-pub flag-put : (flags : List ℕ) (k : ℕ) (up : Bool) {x : ℕ} → x ≡ (if up then 1 else 0) → set flags k x ≡ flagged flags k up
-unfolding flagged
-flag-put flags k up e = ap (set flags k) e
+module _ (flags : List ℕ) (t : Tables) (s : Step) (right : Trusting flags t) where
+  -- a flag that is up spares the look
+  pub by-flag : {up : Bool} → up ≡ raised flags (s .contact) → up ≡ true → Looked s t 0
+  unfolding Trusting
+  by-flag e h = record { trusted = λ _. right (s .contact) (sym e ∙ h); turned = λ none. absurd (none refl) }
 
--- a flag that is up spares the search
-pub by-flag : (flags : List ℕ) (t : Tables) (k : ℕ) {up : Bool} → Vouching flags t → up ≡ raised flags k → up ≡ true → 0 ≡ flawAt t k
-unfolding Vouching vouched
-by-flag flags t k right e h = sym (eqb-true (flawAt t k) 0 (right k (sym e ∙ h)))
-
-pub by-search : (t : Tables) (k : ℕ) {c : Contact} {f : ℕ} → c ≡ contactAt (t .numbers) (t .floats) k → f ≡ flaw (rows bodyWidth (t .bodies)) c → f ≡ flawAt t k
-by-search t k e f = cc
-
--- what a step leaves
-module _ (s : Step) (t : Tables) where
-  abbrev after : Tables
-  after = stepOn s t .after
-
-  as-many-bodies : rows bodyWidth (after .bodies) ≡ rows bodyWidth (t .bodies)
-  as-many-bodies = ap (λ l. rows bodyWidth l) (after-bodies s t) ∙ bodies-as-many (itsContact s t .head) (outcome s t) (t .bodies)
-
-  -- a contact that is vouched for stays so
-  vouched-stays : (k : ℕ) → vouchedAt t k ≡ true → vouchedAt after k ≡ true
-  vouched-stays k was = rw as-many-bodies (by-case (each-contact s t k))
+  -- it is put up where the look found nothing
+  pub put-right : {flags′ : List ℕ} {found : ℕ} → Looked s t found → found ≡ 0 → flags′ ≡ flagged flags (s .contact) → Trusting flags′ t
+  unfolding Trusting
+  put-right looked none put k up = by-case (ℕ-discrete k (s .contact))
     where
-      by-case : (contactAt (after .numbers) (after .floats) k ≡ contactAt (t .numbers) (t .floats) k) ⊎ Own s t k (contactAt (after .numbers) (after .floats) k)
-          → vouched (rows bodyWidth (t .bodies)) (contactAt (after .numbers) (after .floats) k) ≡ true
-      by-case (inl same) = rw same was
-      by-case (inr mine) =
-          let c = itsContact s t in
-          rw (mine .is)
-          (stays-vouched c (s .kind) (velsAt (t .bodies) (c .head)) (rows bodyWidth (t .bodies)) (mine .gave) (done-there s t (mine .gave) (mine .done) .1))
+      by-case : Dec (k ≡ s .contact) → Trusted t k
+      by-case (yes e) = rw e (looked .trusted none)
+      by-case (no ne) = right k (sym (other-flag flags (s .contact) k ne) ∙ rw (← put) up)
 
-  -- so the flags are right again, with that of the step's contact up if it was vouched for
-  pub stay-right : (flags : List ℕ) → Vouching flags t → Vouching (flagged flags (s .contact) (vouchedAt t (s .contact))) after
-  unfolding Vouching
-  stay-right flags right j up = vouched-stays j (by-case (eqb j (s .contact)) refl)
-    where
-      by-case : (same : Bool) → eqb j (s .contact) ≡ same → vouchedAt t j ≡ true
-      by-case true e =
-          let is : j ≡ s .contact = eqb-true j (s .contact) e in
-          rw is (own-flag flags (s .contact) (vouchedAt t (s .contact)) (rw is at up))
-      by-case false e = right j (sym (other-flag flags (s .contact) j (vouchedAt t (s .contact)) (eqb-false j (s .contact) e)) ∙ up)
-
--- a turn's calls, put together
-pub flags-right : (flags : List ℕ) (t : Tables) (s : Step) {a : Answer} {t′ : Tables} {found : ℕ} {flags′ : List ℕ} → Vouching flags t
-    → found ≡ flawAt t (s .contact) → record { answer = a; after = t′ } ≡ stepOn s t → flags′ ≡ flagged flags (s .contact) (eqb found 0)
-    → Vouching flags′ t′
-unfolding vouched
-flags-right flags t s right tested done put =
-    let is-after = ap (λ (x : Stepped Answer Tables). x .after) done in
-    rw (put, tested, is-after) (stay-right s t flags right)
+-- a step leaves every flag right
+pub still-right : (flags : List ℕ) (t : Tables) (s : Step) {a : Answer} {t′ : Tables} → Trusting flags t → record { answer = a; after = t′ } ≡ stepOn s t → Trusting flags t′
+unfolding Trusting
+still-right flags t s right done k up = rw (ap (λ (x : Stepped Answer Tables). x .after) done) (stays-trusted s t k (right k up))
 
 -- at first no flag is up
-pub none-up : (n : ℕ) (t : Tables) → Vouching (replicate n 0) t
-unfolding Vouching raised
+pub none-up : (n : ℕ) (t : Tables) → Trusting (replicate n 0) t
+unfolding Trusting raised
 none-up n t k up = never (sym up ∙ down n k)
   where
     down : (n k : ℕ) → raised (replicate n 0) k ≡ false

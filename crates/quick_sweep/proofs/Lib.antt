@@ -1,2 +1,3 @@
-pub mod SoFar
+pub mod Stays
 pub mod Flags
+pub mod SoFar

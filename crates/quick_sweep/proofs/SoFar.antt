@@ -18,7 +18,7 @@ use Rattle.list_tables.specs.declared.Step.{Step}
 use Rattle.base_order.proofs.Snoc.{answers-none, count-none, finish-none, one-at-most}
 use Rattle.list_rules.specs.Sweep.{Swept, Tables, firstSteps, isRefused, laid, stepOn, sweep, swept, tables}
 use Rattle.list_rules.proofs.Going.{few-refused, sweep-min, sweep-suc}
-use Rattle.quick_sweep.specs.Flags.{Vouching}
+use Rattle.quick_sweep.specs.Flags.{Trusting}
 use Rattle.quick_sweep.specs.Next.{StepDone}
 
 -- after i of n steps, all of them steps of the list
@@ -31,7 +31,7 @@ pub record SoFar (steps : List ℕ) (n : ℕ) (bodies₀ : List Float) (numbers 
   pub floats-long : length floats ≡ length floats₀
   pub room-long : length room ≡ length room₀
   pub flags-long : length flags ≡ length flags₀
-  pub flags-right : Vouching flags (tables bodies numbers floats)
+  pub flags-right : Trusting flags (tables bodies numbers floats)
 
 -- a step read, done, and its answer laid
 pub step-done : (steps : List ℕ) (i : ℕ) (t : Tables) (room : List ℕ) {s : Step} {a : Answer} {t′ : Tables} {room′ : List ℕ} → s ≡ stepAt steps i
@@ -39,7 +39,7 @@ pub step-done : (steps : List ℕ) (i : ℕ) (t : Tables) (room : List ℕ) {s :
 step-done steps i t room es ea er = record { done = rw (← es) ea; told = er }
 
 module _ (steps : List ℕ) (n : ℕ) (bodies₀ : List Float) (numbers : List ℕ) (floats₀ : List Float) (room₀ flags₀ : List ℕ) where
-  pub at-start : (asked : ℕ) → n ≡ min asked (rows stepWidth steps) → Vouching flags₀ (tables bodies₀ numbers floats₀)
+  pub at-start : (asked : ℕ) → n ≡ min asked (rows stepWidth steps) → Trusting flags₀ (tables bodies₀ numbers floats₀)
       → SoFar steps n bodies₀ numbers floats₀ room₀ flags₀ bodies₀ floats₀ room₀ flags₀ 0 0
   unfolding sweep firstSteps laid
   at-start asked among right = record {
@@ -55,13 +55,13 @@ module _ (steps : List ℕ) (n : ℕ) (bodies₀ : List Float) (numbers : List �
 
   module _ (bodies floats : List Float) (room flags : List ℕ) (i refused : ℕ) (going : SoFar steps n bodies₀ numbers floats₀ room₀ flags₀ bodies floats room flags i refused) where
     -- the flags are right, as each step asks
-    pub still-right : Vouching flags (tables bodies numbers floats)
+    pub still-right : Trusting flags (tables bodies numbers floats)
     still-right = going .flags-right
 
     -- one step more
     pub go-on : (bodies′ floats′ : List Float) (room′ flags′ : List ℕ) (a : Answer) (r : ℕ) → i < n
         → StepDone steps i (tables bodies numbers floats) room a (tables bodies′ numbers floats′) room′ → r ≡ (if isRefused a then 1 else 0)
-        → Vouching flags′ (tables bodies′ numbers floats′) → length bodies′ ≡ length bodies → length floats′ ≡ length floats → length room′ ≡ length room → length flags′ ≡ length flags
+        → Trusting flags′ (tables bodies′ numbers floats′) → length bodies′ ≡ length bodies → length floats′ ≡ length floats → length room′ ≡ length room → length flags′ ≡ length flags
         → SoFar steps n bodies₀ numbers floats₀ room₀ flags₀ bodies′ floats′ room′ flags′ (i + 1) (refused + r)
     go-on bodies′ floats′ room′ flags′ a r h turned ec right kb kf kr kg =
         let so = going .so-far in

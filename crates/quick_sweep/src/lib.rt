@@ -1,19 +1,23 @@
-// A list of steps, one after the other. What a contact is refused by is looked for at the first step that names it; where
-// nothing is found, a flag says that it need not be looked for again. What a list comes to is the same without flags.
-use base_places::BODY_WIDTH;
+// A list of steps, one after the other. A contact is looked at by the first step that names it; where it is trusted, a flag
+// says that it need not be looked at again. What a list comes to is the same without flags.
+use base_places::FLOATS_WIDTH;
 use base_places::MOST_CONTACTS;
 use list_cells::Answer;
 use list_cells::put_answer;
-use list_tables::contact_at;
+use list_tables::Step;
 use list_tables::step_at;
 use list_tables::steps_among;
-use quick_flaws::flaw;
+use quick_step::look;
 use quick_step::step_on;
 ghost use mathlib.Core.Path.{_≡_};
 ghost use Rattle.base_words.specs.Choice.{if_then_else_};
-ghost use Rattle.list_rules.specs.Sweep.{isRefused, sweep, swept, tables};
-ghost use Rattle.quick_sweep.specs.Flags.{Vouching, flagged, flawAt, raised};
+ghost use Rattle.list_rules.specs.Sweep.{isRefused, stepOn, sweep, swept, tables};
+ghost use Rattle.quick_step.specs.Trusted.{Looked};
+ghost use Rattle.quick_sweep.specs.Flags.{Trusting, flagged, raised};
 ghost use Rattle.quick_sweep.specs.Next.{StepDone};
+
+// So many flags do for a table of few contacts.
+const FEW: usize = 256;
 
 // Whether the flag of contact k is up.
 fn raised(flags: &[u8], k: usize) -> bool
@@ -25,33 +29,53 @@ fn raised(flags: &[u8], k: usize) -> bool
     false
 }
 
-fn flag(up: bool) -> u8
-    ensures { λ r. ⌜ r ≡ (if up then 1 else 0) ⌝ }
-{
-    if up { 1 } else { 0 }
-}
-
-// Puts the flag of contact k up or down, if it has one.
-fn raise(flags: &mut [u8], k: usize, up: bool)
-    ensures { λ _. ⌜ now (flags .exit) ≡ flagged (now (flags .entry)) k up ⌝ }
+// Puts the flag of contact k up, if it has one.
+fn raise(flags: &mut [u8], k: usize)
+    ensures { λ _. ⌜ now (flags .exit) ≡ flagged (now (flags .entry)) k ⌝ }
 {
     if k < flags.len() {
-        flags[k] = flag(up);
+        flags[k] = 1;
     }
 }
 
-// What is wrong with contact k: nothing, if its flag is up, and else what a search finds.
-fn its_flaw(bodies: &[f32], numbers: &[u16], floats: &[f32], flags: &[u8], k: usize) -> u16
-    requires { ⌜ Vouching (now flags) (tables (now bodies) (now numbers) (now floats)) ⌝ }
-    ensures { λ r. ⌜ r ≡ flawAt (tables (now (bodies .entry)) (now (numbers .entry)) (now (floats .entry))) k ⌝ }
+// What turns the step away before it is worked, by its number, or 0: nothing, if its contact's flag is up, and else what
+// a look finds. Where it finds nothing, the flag goes up.
+fn turned_away(bodies: &[f32], numbers: &[u16], floats: &[f32], flags: &mut [u8], s: Step) -> u16
+    requires { ⌜ Trusting (now flags) (tables (now bodies) (now numbers) (now floats)) ⌝ }
+    ensures { λ r. ⌜ Looked s (tables (now (bodies .entry)) (now (numbers .entry)) (now (floats .entry))) r ⌝ }
+    ensures { λ _. ⌜ Trusting (now (flags .exit)) (tables (now (bodies .entry)) (now (numbers .entry)) (now (floats .entry))) ⌝ }
 {
+    let k = s.contact as usize;
     if raised(flags, k) {
         return 0;
     }
-    flaw(contact_at(numbers, floats, k), bodies.len() / BODY_WIDTH)
+    let found = look(bodies, numbers, floats, s);
+    if found == 0 {
+        raise(flags, k);
+    }
+    found
 }
 
-// Step i of the list: done on the tables, its answer laid into row i of the room, its contact's flag put right.
+// One step on the tables: turned away, or worked on a contact that is trusted.
+fn answer_to(
+    bodies: &mut [f32],
+    numbers: &[u16],
+    floats: &mut [f32],
+    flags: &mut [u8],
+    s: Step,
+) -> Answer
+    requires { ⌜ Trusting (now flags) (tables (now bodies) (now numbers) (now floats)) ⌝ }
+    ensures { λ r. ⌜ record { answer = r; after = tables (now (bodies .exit)) (now (numbers .entry)) (now (floats .exit)) } ≡ stepOn s (tables (now (bodies .entry)) (now (numbers .entry)) (now (floats .entry))) ⌝ }
+    ensures { λ _. ⌜ Trusting (now (flags .exit)) (tables (now (bodies .exit)) (now (numbers .entry)) (now (floats .exit))) ⌝ }
+{
+    let number = turned_away(bodies, numbers, floats, flags, s);
+    if number == 0 {
+        return step_on(bodies, numbers, floats, s);
+    }
+    Answer { number, branch: 0 }
+}
+
+// Step i of the list: its answer, laid into row i of the room.
 fn next_step(
     bodies: &mut [f32],
     numbers: &[u16],
@@ -61,16 +85,13 @@ fn next_step(
     flags: &mut [u8],
     i: usize,
 ) -> Answer
-    requires { ⌜ Vouching (now flags) (tables (now bodies) (now numbers) (now floats)) ⌝ }
+    requires { ⌜ Trusting (now flags) (tables (now bodies) (now numbers) (now floats)) ⌝ }
     ensures { λ r. ⌜ StepDone (now (steps .entry)) i (tables (now (bodies .entry)) (now (numbers .entry)) (now (floats .entry))) (now (room .entry)) r (tables (now (bodies .exit)) (now (numbers .entry)) (now (floats .exit))) (now (room .exit)) ⌝ }
-    ensures { λ _. ⌜ Vouching (now (flags .exit)) (tables (now (bodies .exit)) (now (numbers .entry)) (now (floats .exit))) ⌝ }
+    ensures { λ _. ⌜ Trusting (now (flags .exit)) (tables (now (bodies .exit)) (now (numbers .entry)) (now (floats .exit))) ⌝ }
 {
     let s = step_at(steps, i);
-    let k = s.contact as usize;
-    let found = its_flaw(bodies, numbers, floats, flags, k);
-    let answer = step_on(bodies, numbers, floats, s, found);
+    let answer = answer_to(bodies, numbers, floats, flags, s);
     put_answer(room, i, answer);
-    raise(flags, k, found == 0);
     answer
 }
 
@@ -91,7 +112,7 @@ fn walk(
     flags: &mut [u8],
     n: usize,
 ) -> usize
-    requires { ⌜ Vouching (now flags) (tables (now bodies) (now numbers) (now floats)) ⌝ }
+    requires { ⌜ Trusting (now flags) (tables (now bodies) (now numbers) (now floats)) ⌝ }
     ensures { λ r. ⌜ swept (tables (now (bodies .exit)) (now (numbers .entry)) (now (floats .exit))) (now (room .exit)) r ≡ sweep (now (steps .entry)) n (tables (now (bodies .entry)) (now (numbers .entry)) (now (floats .entry))) (now (room .entry)) ⌝ }
 {
     let last = steps_among(steps, n);
@@ -105,7 +126,22 @@ fn walk(
     refused
 }
 
-// The same with no flag up at first: one for each contact that a call may have.
+// The same with no flag up at first: a few for a table of few contacts, so that little has to be cleared; ..
+fn sweep_few(
+    bodies: &mut [f32],
+    numbers: &[u16],
+    floats: &mut [f32],
+    steps: &[u16],
+    room: &mut [u16],
+    n: usize,
+) -> usize
+    ensures { λ r. ⌜ swept (tables (now (bodies .exit)) (now (numbers .entry)) (now (floats .exit))) (now (room .exit)) r ≡ sweep (now (steps .entry)) n (tables (now (bodies .entry)) (now (numbers .entry)) (now (floats .entry))) (now (room .entry)) ⌝ }
+{
+    let mut flags = [0u8; FEW];
+    walk(bodies, numbers, floats, steps, room, &mut flags, n)
+}
+
+// .. or one for each contact that a call may have.
 pub fn sweep(
     bodies: &mut [f32],
     numbers: &[u16],
@@ -116,6 +152,9 @@ pub fn sweep(
 ) -> usize
     ensures { λ r. ⌜ swept (tables (now (bodies .exit)) (now (numbers .entry)) (now (floats .exit))) (now (room .exit)) r ≡ sweep (now (steps .entry)) n (tables (now (bodies .entry)) (now (numbers .entry)) (now (floats .entry))) (now (room .entry)) ⌝ }
 {
+    if floats.len() / FLOATS_WIDTH <= FEW {
+        return sweep_few(bodies, numbers, floats, steps, room, n);
+    }
     let mut flags = [0u8; MOST_CONTACTS];
     walk(bodies, numbers, floats, steps, room, &mut flags, n)
 }

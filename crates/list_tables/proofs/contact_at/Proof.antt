@@ -1,5 +1,5 @@
 -- `list_tables::contact_at` meets its contract. By which of its rows are there. Assumes nothing.
-use Rattle.list_tables.proofs.Contacts.{both-there, no-floats, no-numbers}
+use Rattle.list_tables.proofs.Contacts.{no-floats, no-numbers}
 use borrow.Author.Needs.{needs}
 use Rattle.list_tables.proofs.contact_at.Statement.{statement}
 use Rattle.list_tables.proofs.contact_at.Tie as tie
@@ -16,67 +16,11 @@ zero-requires-2 c κs = search needs
 returns-2 : tie.Need-returns-2
 returns-2 c = search no-floats
 
-mul-i : tie.Need-mul-i
-mul-i c = search needs
-
-mul-j : tie.Need-mul-j
-mul-j c = search needs
-
-add-contact-of : tie.Need-add-contact-of
-add-contact-of c = search needs
-
-mul-contact-of : tie.Need-mul-contact-of
-mul-contact-of c = search needs
-
-sub-contact-of : tie.Need-sub-contact-of
-sub-contact-of c = search needs
-
-part-contact-of-start : tie.Need-part-contact-of-start
-part-contact-of-start c = search needs
-
-part-contact-of-end : tie.Need-part-contact-of-end
-part-contact-of-end c = search needs
-
-add-contact-of-2 : tie.Need-add-contact-of-2
-add-contact-of-2 c = search needs
-
-mul-contact-of-2 : tie.Need-mul-contact-of-2
-mul-contact-of-2 c = search needs
-
-sub-contact-of-2 : tie.Need-sub-contact-of-2
-sub-contact-of-2 c = search needs
-
-part-contact-of-start-2 : tie.Need-part-contact-of-start-2
-part-contact-of-start-2 c = search needs
-
-part-contact-of-end-2 : tie.Need-part-contact-of-end-2
-part-contact-of-end-2 c = search needs
-
-contact-of-requires : tie.Need-contact-of-requires
-contact-of-requires c κs = search needs
+contact-in-requires : tie.Need-contact-in-requires
+contact-in-requires c κs = search needs
 
 returns-3 : tie.Need-returns-3
-returns-3 c = search both-there
+returns-3 c = search needs
 
 pub contact-at-spec : {M : Type 1} → statement M
-contact-at-spec =
-    tie.close
-    (tie.spec
-    zero-requires
-    returns
-    zero-requires-2
-    returns-2
-    mul-i
-    mul-j
-    add-contact-of
-    mul-contact-of
-    sub-contact-of
-    part-contact-of-start
-    part-contact-of-end
-    add-contact-of-2
-    mul-contact-of-2
-    sub-contact-of-2
-    part-contact-of-start-2
-    part-contact-of-end-2
-    contact-of-requires
-    returns-3)
+contact-at-spec = tie.close (tie.spec zero-requires returns zero-requires-2 returns-2 contact-in-requires returns-3)

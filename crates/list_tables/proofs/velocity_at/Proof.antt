@@ -1,5 +1,5 @@
 -- `list_tables::velocity_at` meets its contract. The floor, a row, no row. Assumes nothing.
-use Rattle.list_tables.proofs.Velocities.{of-floor, of-no-row, of-row}
+use Rattle.list_tables.proofs.Velocities.{of-floor, of-no-row}
 use borrow.Author.Needs.{needs}
 use Rattle.list_tables.proofs.velocity_at.Statement.{statement}
 use Rattle.list_tables.proofs.velocity_at.Tie as tie
@@ -10,29 +10,11 @@ zero-requires c κs = search needs
 returns : tie.Need-returns
 returns c = search of-floor
 
-mul-i : tie.Need-mul-i
-mul-i c = search needs
-
-add-velocity-of : tie.Need-add-velocity-of
-add-velocity-of c = search needs
-
-mul-velocity-of : tie.Need-mul-velocity-of
-mul-velocity-of c = search needs
-
-sub-velocity-of : tie.Need-sub-velocity-of
-sub-velocity-of c = search needs
-
-part-velocity-of-start : tie.Need-part-velocity-of-start
-part-velocity-of-start c = search needs
-
-part-velocity-of-end : tie.Need-part-velocity-of-end
-part-velocity-of-end c = search needs
-
-velocity-of-requires : tie.Need-velocity-of-requires
-velocity-of-requires c κs = search needs
+velocity-in-requires : tie.Need-velocity-in-requires
+velocity-in-requires c κs = λ _. c .if2 .taken
 
 returns-2 : tie.Need-returns-2
-returns-2 c = search of-row
+returns-2 c = search needs
 
 zero-requires-2 : tie.Need-zero-requires-2
 zero-requires-2 c κs = search needs
@@ -41,18 +23,4 @@ returns-3 : tie.Need-returns-3
 returns-3 c = search of-no-row
 
 pub velocity-at-spec : {M : Type 1} → statement M
-velocity-at-spec =
-    tie.close
-    (tie.spec
-    zero-requires
-    returns
-    mul-i
-    add-velocity-of
-    mul-velocity-of
-    sub-velocity-of
-    part-velocity-of-start
-    part-velocity-of-end
-    velocity-of-requires
-    returns-2
-    zero-requires-2
-    returns-3)
+velocity-at-spec = tie.close (tie.spec zero-requires returns velocity-in-requires returns-2 zero-requires-2 returns-3)

@@ -1,33 +1,65 @@
--- `quick_step::step_on` meets its contract. By what its calls ensure. Assumes nothing.
-use Rattle.quick_step.proofs.AsRead.{stepped}
+-- `quick_step::step_on` meets its contract. Each arm is the routine of its kind, of the contact as it was read. Assumes nothing.
+use Rattle.step_kinds.specs.Table.{kindOf, kinds, pointsFor, routine}
+use Rattle.step_shape.specs.Shape.{kindAbove, pairOfOne}
+use Rattle.quick_step.proofs.There.{has-rows}
+use Rattle.quick_step.proofs.Worked.{by-kind, by-kind-of-one, made-rows, no-kind, no-pair, read-bodies}
+use mathlib.Core.Path.{refl}
+use native.Mathlib.Omega.{arith}
 use borrow.Author.Needs.{needs}
 use Rattle.quick_step.proofs.step_on.Statement.{statement}
 use Rattle.quick_step.proofs.step_on.Tie as tie
-use Rattle.quick_step.proofs.step_on.Reads as reads
 
 cast-k : tie.Need-cast-k
 cast-k c = search needs
 
-contact-at-requires : tie.Need-contact-at-requires
-contact-at-requires c κs = search needs
+contact-of-one-or-two-requires : tie.Need-contact-of-one-or-two-requires
+contact-of-one-or-two-requires c κs = has-rows _ _ _ _ (c .before .before .before .before .before .pre)
 
-velocities-requires : tie.Need-velocities-requires
-velocities-requires c κs = search needs
+velocities-in-requires : tie.Need-velocities-in-requires
+velocities-in-requires c κs = read-bodies _ _ _ _ (c .before .before .before .before .before .before .before .before .pre) (c .before .before .contact-of-one-or-two .ensures)
 
-tried-knowing-requires : tie.Need-tried-knowing-requires
-tried-knowing-requires c κs = search needs
+contact-of-one-or-two-requires-2 : tie.Need-contact-of-one-or-two-requires-2
+contact-of-one-or-two-requires-2 c κs = has-rows _ _ _ _ (c .before .before .before .before .before .before .before .before .before .before .before .pre)
 
-if-there-requires : tie.Need-if-there-requires
-if-there-requires c κs = search needs
+warmstart-requires : tie.Need-warmstart-requires
+warmstart-requires c κs = search needs
 
-write-bodies-requires : tie.Need-write-bodies-requires
-write-bodies-requires c κs = search needs
+kept-requires : tie.Need-kept-requires
+unfolding routine kindOf kinds
+kept-requires c κs = made-rows _ _ _ _ (c .before .before .before .before .before .before .before .before .before .before .before .before .before .before .before .pre) 0 _ (c .before .before .before .contact-of-one-or-two2 .ensures) (c .warmstart .ensures)
 
-write-floats-requires : tie.Need-write-floats-requires
-write-floats-requires c κs = search needs
+contact-of-one-or-two-requires-3 : tie.Need-contact-of-one-or-two-requires-3
+contact-of-one-or-two-requires-3 c κs = has-rows _ _ _ _ (c .before .before .before .before .before .before .before .before .before .before .before .pre)
 
-answered-requires : tie.Need-answered-requires
-answered-requires c κs = search needs
+over-points-requires : tie.Need-over-points-requires
+over-points-requires c κs = search needs
+
+kept-requires-2 : tie.Need-kept-requires-2
+unfolding routine kindOf kinds
+kept-requires-2 c κs = made-rows _ _ _ _ (c .before .before .before .before .before .before .before .before .before .before .before .before .before .before .before .pre) 1 _ (c .before .before .before .contact-of-one-or-two3 .ensures) (c .over-points .ensures)
+
+contact-of-one-or-two-requires-4 : tie.Need-contact-of-one-or-two-requires-4
+contact-of-one-or-two-requires-4 c κs = has-rows _ _ _ _ (c .before .before .before .before .before .before .before .before .before .before .before .pre)
+
+over-points-requires-2 : tie.Need-over-points-requires-2
+over-points-requires-2 c κs = search needs
+
+kept-requires-3 : tie.Need-kept-requires-3
+unfolding routine kindOf kinds
+kept-requires-3 c κs = made-rows _ _ _ _ (c .before .before .before .before .before .before .before .before .before .before .before .before .before .before .before .pre) 2 _ (c .before .before .before .contact-of-one-or-two4 .ensures) (c .over-points2 .ensures)
+
+contact-of-one-or-two-requires-5 : tie.Need-contact-of-one-or-two-requires-5
+contact-of-one-or-two-requires-5 c κs = has-rows _ _ _ _ (c .before .before .before .before .before .before .before .before .before .before .before .pre)
+
+over-points-requires-3 : tie.Need-over-points-requires-3
+over-points-requires-3 c κs = search needs
+
+kept-requires-4 : tie.Need-kept-requires-4
+unfolding routine kindOf kinds
+kept-requires-4 c κs = made-rows _ _ _ _ (c .before .before .before .before .before .before .before .before .before .before .before .before .before .before .before .pre) 3 _ (c .before .before .before .contact-of-one-or-two5 .ensures) (c .over-points3 .ensures)
+
+pair-of-one-requires : tie.Need-pair-of-one-requires
+pair-of-one-requires c κs = search needs
 
 same-length : tie.Need-same-length
 same-length c = search needs
@@ -36,29 +68,120 @@ same-length-2 : tie.Need-same-length-2
 same-length-2 c = search needs
 
 returns : tie.Need-returns
-returns c =
-    let impulses = c .before .before .before in
-    let velocities = impulses .before .before .before .before in
-    let there = velocities .before .before in
-    let worked = there .before in
-    let moving = worked .before .before in
-    let read = moving .before .before .before in
-    let start = read .before .before .before .before .before .before in
-    stepped _ _ _ _ (start .pre) (read .contact-at .ensures) (moving .velocities .ensures) (worked .tried-knowing .ensures) (there .if-there .ensures)
-    (velocities .write-bodies .ensures) (impulses .write-floats .ensures) (c .answered .ensures)
+unfolding kindAbove kinds
+returns c = no-pair _ _ _ _ (c .before .before .before .before .before .before .before .before .before .before .before .before .pre) 4 (c .before .before .match .keys5) refl (c .before .before .before .before .before .before .contact-of-one-or-two .ensures) (c .before .pair-of-one .ensures) (c .if1 .taken)
+
+contact-of-one-or-two-requires-6 : tie.Need-contact-of-one-or-two-requires-6
+contact-of-one-or-two-requires-6 c κs = has-rows _ _ _ _ (c .before .before .before .before .before .before .before .before .before .before .before .before .before .pre)
+
+solve-pair-requires : tie.Need-solve-pair-requires
+solve-pair-requires c κs = search needs
+
+kept-requires-5 : tie.Need-kept-requires-5
+unfolding routine kindOf kinds
+kept-requires-5 c κs = made-rows _ _ _ _ (c .before .before .before .before .before .before .before .before .before .before .before .before .before .before .before .before .before .pre) 4 _ (c .before .before .before .contact-of-one-or-two6 .ensures) (c .solve-pair .ensures)
+
+same-length-3 : tie.Need-same-length-3
+same-length-3 c = search needs
+
+same-length-4 : tie.Need-same-length-4
+same-length-4 c = search needs
+
+returns-2 : tie.Need-returns-2
+unfolding routine kindOf kinds kindAbove pairOfOne pointsFor
+returns-2 c = by-kind-of-one _ _ _ _ (c .before .before .before .before .before .before .before .before .before .before .before .before .before .before .before .before .before .before .before .before .pre) 0 (c .before .before .before .before .before .before .before .before .before .before .match .keys1) refl (λ _. refl) (c .before .before .before .before .before .before .before .before .before .before .before .before .before .before .contact-of-one-or-two .ensures) (c .before .before .before .before .before .before .before .before .contact-of-one-or-two2 .ensures) (c .before .before .before .before .before .before .before .before .before .before .before .velocities-in .ensures) (c .before .before .before .before .before .warmstart .ensures) (c .before .before .before .before .kept .ensures)
+
+same-length-5 : tie.Need-same-length-5
+same-length-5 c = search needs
+
+same-length-6 : tie.Need-same-length-6
+same-length-6 c = search needs
+
+returns-3 : tie.Need-returns-3
+unfolding routine kindOf kinds kindAbove pairOfOne pointsFor
+returns-3 c = by-kind-of-one _ _ _ _ (c .before .before .before .before .before .before .before .before .before .before .before .before .before .before .before .before .before .before .before .before .pre) 1 (c .before .before .before .before .before .before .before .before .before .before .match .keys2) refl (λ _. refl) (c .before .before .before .before .before .before .before .before .before .before .before .before .before .before .contact-of-one-or-two .ensures) (c .before .before .before .before .before .before .before .before .contact-of-one-or-two3 .ensures) (c .before .before .before .before .before .before .before .before .before .before .before .velocities-in .ensures) (c .before .before .before .before .before .over-points .ensures) (c .before .before .before .before .kept2 .ensures)
+
+same-length-7 : tie.Need-same-length-7
+same-length-7 c = search needs
+
+same-length-8 : tie.Need-same-length-8
+same-length-8 c = search needs
+
+returns-4 : tie.Need-returns-4
+unfolding routine kindOf kinds kindAbove pairOfOne pointsFor
+returns-4 c = by-kind-of-one _ _ _ _ (c .before .before .before .before .before .before .before .before .before .before .before .before .before .before .before .before .before .before .before .before .pre) 2 (c .before .before .before .before .before .before .before .before .before .before .match .keys3) refl (λ _. refl) (c .before .before .before .before .before .before .before .before .before .before .before .before .before .before .contact-of-one-or-two .ensures) (c .before .before .before .before .before .before .before .before .contact-of-one-or-two4 .ensures) (c .before .before .before .before .before .before .before .before .before .before .before .velocities-in .ensures) (c .before .before .before .before .before .over-points2 .ensures) (c .before .before .before .before .kept3 .ensures)
+
+same-length-9 : tie.Need-same-length-9
+same-length-9 c = search needs
+
+same-length-10 : tie.Need-same-length-10
+same-length-10 c = search needs
+
+returns-5 : tie.Need-returns-5
+unfolding routine kindOf kinds kindAbove pairOfOne pointsFor
+returns-5 c = by-kind-of-one _ _ _ _ (c .before .before .before .before .before .before .before .before .before .before .before .before .before .before .before .before .before .before .before .before .pre) 3 (c .before .before .before .before .before .before .before .before .before .before .match .keys4) refl (λ _. refl) (c .before .before .before .before .before .before .before .before .before .before .before .before .before .before .contact-of-one-or-two .ensures) (c .before .before .before .before .before .before .before .before .contact-of-one-or-two5 .ensures) (c .before .before .before .before .before .before .before .before .before .before .before .velocities-in .ensures) (c .before .before .before .before .before .over-points3 .ensures) (c .before .before .before .before .kept4 .ensures)
+
+same-length-11 : tie.Need-same-length-11
+same-length-11 c = search needs
+
+same-length-12 : tie.Need-same-length-12
+same-length-12 c = search needs
+
+returns-6 : tie.Need-returns-6
+unfolding routine kindOf kinds kindAbove
+returns-6 c = by-kind _ _ _ _ (c .before .before .before .before .before .before .before .before .before .before .before .before .before .before .before .before .before .before .before .before .before .before .pre) 4 (c .before .before .before .before .before .before .before .before .before .before .before .before .match .keys5) refl (c .before .before .before .before .before .before .before .before .before .before .before .before .before .before .before .before .contact-of-one-or-two .ensures) (c .before .before .before .before .before .before .before .before .before .before .before .pair-of-one .ensures) (c .before .before .before .before .before .before .before .before .before .before .if1 .left) (c .before .before .before .before .before .before .before .before .contact-of-one-or-two6 .ensures) (c .before .before .before .before .before .before .before .before .before .before .before .before .before .velocities-in .ensures) (c .before .before .before .before .before .solve-pair .ensures) (c .before .before .before .before .kept5 .ensures)
+
+same-length-13 : tie.Need-same-length-13
+same-length-13 c = search needs
+
+same-length-14 : tie.Need-same-length-14
+same-length-14 c = search needs
+
+returns-7 : tie.Need-returns-7
+unfolding kinds
+returns-7 c = no-kind _ _ _ _ (c .before .before .before .before .before .before .before .before .before .before .pre) (omega arith)
 
 pub step-on-spec : {M : Type 1} → statement M
 step-on-spec =
     tie.close
     (tie.spec
     cast-k
-    contact-at-requires
-    velocities-requires
-    tried-knowing-requires
-    if-there-requires
-    write-bodies-requires
-    write-floats-requires
-    answered-requires
+    contact-of-one-or-two-requires
+    velocities-in-requires
+    contact-of-one-or-two-requires-2
+    warmstart-requires
+    kept-requires
+    contact-of-one-or-two-requires-3
+    over-points-requires
+    kept-requires-2
+    contact-of-one-or-two-requires-4
+    over-points-requires-2
+    kept-requires-3
+    contact-of-one-or-two-requires-5
+    over-points-requires-3
+    kept-requires-4
+    pair-of-one-requires
     same-length
     same-length-2
-    returns)
+    returns
+    contact-of-one-or-two-requires-6
+    solve-pair-requires
+    kept-requires-5
+    same-length-3
+    same-length-4
+    returns-2
+    same-length-5
+    same-length-6
+    returns-3
+    same-length-7
+    same-length-8
+    returns-4
+    same-length-9
+    same-length-10
+    returns-5
+    same-length-11
+    same-length-12
+    returns-6
+    same-length-13
+    same-length-14
+    returns-7)
