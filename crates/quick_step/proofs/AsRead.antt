@@ -14,7 +14,7 @@ use Rattle.elem_velocity.specs.declared.Vels.{Vels}
 use Rattle.step_contact.specs.Contact.{isFloor}
 use Rattle.step_contact.specs.declared.Contact.{Contact}
 use Rattle.step_contact.specs.declared.ContactHead.{ContactHead}
-use Rattle.step_rules.specs.Step.{answer, asRead, asWritten, branch, reads, step, tried, writes, writtenVels}
+use Rattle.step_rules.specs.Step.{answer, asRead, asWritten, reads, step, tried, writes, writtenVels}
 use Rattle.step_rules.specs.declared.Outcome.{Outcome}
 use Rattle.step_rules.specs.declared.Outcome.the-variants.{Refused, Done}
 use Rattle.base_rows.specs.Rows.{rows}

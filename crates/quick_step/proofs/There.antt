@@ -4,8 +4,8 @@ use native.Mathlib.Omega.{arith}
 use native.Mathlib.Decide.{decLt}
 use mathlib.Core.Bool.{Bool, true, false, not, _||_}
 use mathlib.Core.List.{List}
-use mathlib.Core.Path.{_≡_, refl, sym, ap, _∙_}
-use borrow.Author.Tests.{eqb-true, eqb-false, ltb-true, ne-eqb}
+use mathlib.Core.Path.{_≡_, refl}
+use borrow.Author.Tests.{eqb-true, ltb-true, ne-eqb}
 use lib.Dec.{eqb, ltb}
 use lib.Ieee.{Float}
 use lib.ListN.{length}
@@ -13,7 +13,7 @@ use Rattle.base_places.specs.Places.{bodyWidth, floatsWidth, numbersWidth}
 use Rattle.base_words.proofs.Pick.{never}
 use Rattle.base_words.proofs.Said.{none-l, none-r, so}
 use Rattle.base_rows.specs.Rows.{rows}
-use Rattle.step_contact.specs.Contact.{contactZero, headZero, isFloor}
+use Rattle.step_contact.specs.Contact.{contactZero, headZero}
 use Rattle.step_contact.specs.declared.Contact.{Contact}
 use Rattle.step_contact.specs.declared.ContactHead.{ContactHead}
 use Rattle.step_shape.specs.Shape.{nowhere, wrongBodies, wrongCount}

@@ -19,8 +19,7 @@ use Rattle.step_kinds.specs.declared.ContactSolved.{ContactSolved}
 use Rattle.step_shape.specs.Shape.{kindAbove, pairOfOne, wrongBodies}
 use Rattle.step_values.specs.Values.{notFiniteVels}
 use Rattle.step_rules.proofs.Chain.{hit, miss}
-use Rattle.step_rules.specs.Step.{asRead, firstOr, tried}
-use Rattle.step_rules.specs.declared.Outcome.{Outcome}
+use Rattle.step_rules.specs.Step.{firstOr, tried}
 use Rattle.list_cells.specs.declared.Answer.{Answer}
 use Rattle.list_rules.specs.Sweep.{ifThere, newBodies, stepOn, tables, velsAt}
 use Rattle.list_tables.specs.Tables.{contactAt}

@@ -28,9 +28,10 @@ pub record Trusted (t : Tables) (k : ℕ) : Type 0 where
 abbrev pub turnedAway : ℕ → Tables → Stepped Answer Tables
 turnedAway number t = record { answer = record { number = number; branch = 0 }; after = t }
 
--- what a look at a step's contact found: nothing, and then it is trusted; or the number that turns the step away
+-- what a look at a step's contact found: nothing, exactly where it is to be trusted; or the number that turns the step away
 pub record Looked (s : Step) (t : Tables) (found : ℕ) : Type 0 where
   pub trusted : found ≡ 0 → Trusted t (s .contact)
+  pub only : Trusted t (s .contact) → found ≡ 0
   pub turned : (found ≡ 0 → ⊥) → turnedAway found t ≡ stepOn s t
 
 -- what was worked out of a trusted contact, unless a velocity is not finite

@@ -6,13 +6,13 @@ use mathlib.Core.Bool.{Bool, true, false}
 use mathlib.Core.List.{List, [], _∷_}
 use mathlib.Core.Logic.{_≢_}
 use mathlib.Core.Path.{_≡_, refl, sym, ap, _∙_}
-use lib.ListN.{length, replicate, set}
+use lib.ListN.{length, replicate}
 use Rattle.base_words.proofs.Pick.{never}
 use Rattle.list_rules.specs.Sweep.{Tables, stepOn}
 use Rattle.list_tables.specs.declared.Step.{Step}
 use Rattle.list_cells.specs.declared.Answer.{Answer}
 use Rattle.base_order.specs.OneByOne.{Stepped}
-use Rattle.quick_step.specs.Trusted.{Looked, Trusted, turnedAway}
+use Rattle.quick_step.specs.Trusted.{Looked, Trusted}
 use Rattle.quick_sweep.proofs.Stays.{stays-trusted}
 use Rattle.quick_sweep.specs.Flags.{Trusting, flagged, raised}
 
@@ -42,7 +42,7 @@ module _ (flags : List ℕ) (t : Tables) (s : Step) (right : Trusting flags t) w
   -- a flag that is up spares the look
   pub by-flag : {up : Bool} → up ≡ raised flags (s .contact) → up ≡ true → Looked s t 0
   unfolding Trusting
-  by-flag e h = record { trusted = λ _. right (s .contact) (sym e ∙ h); turned = λ none. absurd (none refl) }
+  by-flag e h = record { trusted = λ _. right (s .contact) (sym e ∙ h); only = λ _. refl; turned = λ none. absurd (none refl) }
 
   -- it is put up where the look found nothing
   pub put-right : {flags′ : List ℕ} {found : ℕ} → Looked s t found → found ≡ 0 → flags′ ≡ flagged flags (s .contact) → Trusting flags′ t

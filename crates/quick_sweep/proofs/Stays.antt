@@ -2,22 +2,20 @@
 use Prim.Native.Nat.{ℕ, _<_}
 use native.Mathlib.Omega.{arith}
 use native.Mathlib.Decide.{decLt, ℕ-discrete}
-use mathlib.Core.Bool.{Bool, true, false, not, _||_}
+use mathlib.Core.Bool.{true, false, not}
 use mathlib.Core.List.{List}
 use mathlib.Core.Logic.{_⊎_, inl, inr}
 use mathlib.Core.Path.{_≡_, refl, sym, ap, _∙_}
-use borrow.Author.Tests.{eq-eqb, ne-eqb}
+use borrow.Author.Tests.{ne-eqb}
 use lib.Ieee.{Float}
 use Rattle.base_places.specs.Places.{bodyWidth}
 use Rattle.base_words.proofs.Pick.{never}
 use Rattle.base_words.proofs.Said.{none-l, none-r, so}
 use Rattle.base_rows.specs.Rows.{rows}
 use Rattle.elem_velocity.specs.declared.SolverVel.{SolverVel}
-use Rattle.elem_velocity.specs.declared.Vels.{Vels}
 use Rattle.step_contact.specs.Contact.{isFloor}
 use Rattle.step_contact.specs.declared.ContactHead.{ContactHead}
 use Rattle.step_contact.specs.declared.Contact.{Contact}
-use Rattle.step_kinds.specs.declared.ContactSolved.{ContactSolved}
 use Rattle.step_promises.proofs.Promises.{finite-done, same-head-kept}
 use Rattle.step_rules.specs.declared.Outcome.{Outcome}
 use Rattle.step_rules.specs.declared.Outcome.the-variants.{Refused, Done}

@@ -1,10 +1,10 @@
 -- What a routine tells: where one body's velocity is finite after it, every impulse that it stores is, and the floor's side is still. Assumes nothing.
 use Prim.Native.Nat.{ℕ, zero, suc, _<_}
 use native.Mathlib.Omega.{arith}
-use mathlib.Core.Path.{_≡_, refl, sym, _∙_}
-use mathlib.Core.Bool.{Bool, true, false, not, cond, _&&_, _||_}
-use borrow.Author.Tests.{lt-ltb, ne-eqb}
-use lib.Dec.{eqb, ltb}
+use mathlib.Core.Path.{_≡_, refl, _∙_}
+use mathlib.Core.Bool.{Bool, true, false, cond, _&&_, _||_}
+use borrow.Author.Tests.{lt-ltb}
+use lib.Dec.{ltb}
 use lib.Ieee.{Float}
 use Rattle.elem_leaves.specs.Finite.{finite}
 use Rattle.elem_leaves.specs.Floats.{_-f_, _*f_}
@@ -14,14 +14,13 @@ use Rattle.elem_tangent.specs.Tangent.{friction, tangentWarm, tangentWith}
 use Rattle.elem_tangent.specs.declared.ContactConstraintTangentPart.{ContactConstraintTangentPart}
 use Rattle.elem_impulse.specs.declared.PairChoice.{PairChoice}
 use Rattle.elem_normal.specs.Normal.{normal, normalMoved, normalWarm, normalWith, restitution}
-use Rattle.elem_normal.specs.Pair.{pair, pairChoice, pairMoved}
+use Rattle.elem_normal.specs.Pair.{pair, pairMoved}
 use Rattle.elem_normal.specs.declared.ContactConstraintNormalPart.{ContactConstraintNormalPart}
 use Rattle.step_contact.specs.declared.Contact.{Contact}
 use Rattle.step_contact.specs.declared.ContactHead.{ContactHead}
 use Rattle.step_contact.specs.declared.ContactPoint.{ContactPoint}
 use Rattle.base_order.specs.OneByOne.{any}
-use Rattle.base_places.specs.Places.{cells, none, only, place}
-use Rattle.step_contact.specs.Cells.{inCell}
+use Rattle.base_places.specs.Places.{place}
 use Rattle.step_kinds.specs.Table.{kindOf, kinds, noKind, pointsFor, routine, stores}
 use Rattle.step_kinds.specs.Kinds.{atPoint, frictionAt, normalAt, normalLeft, overPoints, pairOf, restitutionAt, turn, warmNormalAt, warmStart, warmTangentAt}
 use Rattle.step_kinds.specs.declared.Rule.{Rule}
@@ -30,7 +29,7 @@ use Rattle.step_contact.specs.Places.{Place, at-a, at-b, number, point}
 use Rattle.step_values.specs.Values.{belowCount, finiteVel, lostImpulse, somePoint}
 use Rattle.quick_tested.proofs.Zeros.{Zero}
 use Rattle.quick_tested.proofs.Implied.{Two, neg-finite, of-difference}
-use Rattle.quick_tested.proofs.Pushes.{Direction, Side, Still, Told, Unmoved, pair-tells, pick, push-tells, told-by, told-then, vel}
+use Rattle.quick_tested.proofs.Pushes.{Direction, Side, Told, Unmoved, pair-tells, pick, push-tells, told-by, told-then, vel}
 
 -- a side that no impulse moves: the head's numbers, and a point's
 pub record GroundHead (y : Side) (h : ContactHead) : Type 0 where

@@ -1,7 +1,7 @@
 -- What a push tells: where one body's velocity is finite after it, it was before, and the impulse is finite; and so a body that no impulse
 -- moves stays at a zero. Assumes nothing.
 use mathlib.Core.Path.{_≡_, refl, sym, _∙_}
-use mathlib.Core.Bool.{Bool, true, false, _&&_}
+use mathlib.Core.Bool.{true, _&&_}
 use lib.Ieee.{Float, neg}
 use Rattle.elem_leaves.specs.Finite.{finite}
 use Rattle.elem_leaves.specs.Floats.{_+f_, _-f_, _*f_}
@@ -15,7 +15,7 @@ use Rattle.elem_normal.specs.declared.ContactConstraintNormalPart.{ContactConst
 use Rattle.step_values.specs.Values.{finiteVel}
 use Rattle.quick_tested.proofs.Zeros.{Zero}
 use Rattle.quick_tested.proofs.Zeros.{both, zero-finite, times-zero, zero-times}
-use Rattle.quick_tested.proofs.Implied.{Two, neg-finite, of-difference, of-product, of-sum, opposite}
+use Rattle.quick_tested.proofs.Implied.{Two, neg-finite, of-product, of-sum, opposite}
 
 -- the two bodies of a contact
 pub data Side : Type 0 where

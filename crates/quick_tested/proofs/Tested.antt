@@ -1,36 +1,31 @@
 -- The statement of specs/Tested.antt. Assumes nothing.
-use Prim.Native.Nat.{ℕ, _<_}
-use native.Mathlib.Omega.{arith}
-use mathlib.Core.Path.{_≡_, refl, sym, ap, _∙_}
+use Prim.Native.Nat.{ℕ}
+use mathlib.Core.Path.{_≡_, refl, sym, _∙_}
 use mathlib.Core.Bool.{Bool, true, false, not, _&&_, _||_}
 use borrow.Author.Tests.{eqb-true, eqb-false}
-use lib.Dec.{eqb, ltb}
-use lib.Ieee.{Float, eq, le, ne, ofBits}
-use Rattle.elem_leaves.specs.Finite.{finite}
+use lib.Dec.{eqb}
+use lib.Ieee.{Float, eq, ne, ofBits}
 use Rattle.elem_leaves.specs.Floats.{zero}
 use Rattle.base_words.proofs.Pick.{never}
 use Rattle.base_words.proofs.Said.{all-l, all-r, none-l, none-r, so}
 use Rattle.elem_velocity.specs.Velocity.{rest}
-use Rattle.elem_velocity.specs.declared.SolverVel.{SolverVel}
 use Rattle.elem_velocity.specs.declared.Vels.{Vels}
 use Rattle.step_contact.specs.Contact.{isFloor}
 use Rattle.step_contact.specs.declared.Contact.{Contact}
 use Rattle.step_contact.specs.declared.ContactHead.{ContactHead}
 use Rattle.step_contact.specs.declared.ContactPoint.{ContactPoint}
-use Rattle.step_kinds.specs.Table.{pointsFor, routine, stores}
-use Rattle.step_kinds.specs.declared.ContactSolved.{ContactSolved}
+use Rattle.step_kinds.specs.Table.{routine, stores}
 use Rattle.step_kinds.proofs.Keeps.{routine-keeps, same-head}
-use Rattle.step_contact.specs.Places.{Place, at-a, at-b, number, point}
+use Rattle.step_contact.specs.Places.{point}
 use Rattle.step_shape.specs.Shape.{nowhere, wrongBodies}
 use Rattle.step_values.specs.Values.{finiteHead, finitePoint, finiteVel, floorMoves, headOut, lostImpulse, notFinite, notFiniteVels, outOfRange, pointOut, somePoint, unwritable}
 use Rattle.step_values.proofs.Passed.{not-at}
 use Rattle.step_rules.specs.Step.{asRead, reads}
-use Rattle.quick_flaws.specs.Flaws.{vouched}
 use Rattle.quick_flaws.proofs.Stays.{Passed, passed}
 use Rattle.quick_tested.proofs.Zeros.{Zero, is-zero, equals-zero}
 use Rattle.quick_tested.specs.Tested.{ImpulsesFollow, OneTest}
-use Rattle.quick_tested.proofs.Pushes.{Direction, Side, Still, Unmoved, first, pick, second, still-finite, vel}
-use Rattle.quick_tested.proofs.Points.{Ground, GroundAt, GroundHead, routine-tells}
+use Rattle.quick_tested.proofs.Pushes.{Direction, Side, Still, first, pick, second, still-finite, vel}
+use Rattle.quick_tested.proofs.Points.{Ground, routine-tells}
 
 abbrev body : Side → ContactHead → ℕ
 body y h = pick y (h .body1) (h .body2)

@@ -13,50 +13,62 @@ cast-k : tie.Need-cast-k
 cast-k c = search needs
 
 contact-of-one-or-two-requires : tie.Need-contact-of-one-or-two-requires
-contact-of-one-or-two-requires c κs = has-rows _ _ _ _ (c .before .before .before .before .before .pre)
+contact-of-one-or-two-requires c κs = search has-rows
 
 velocities-in-requires : tie.Need-velocities-in-requires
-velocities-in-requires c κs = read-bodies _ _ _ _ (c .before .before .before .before .before .before .before .before .pre) (c .before .before .contact-of-one-or-two .ensures)
+velocities-in-requires c κs = search read-bodies
 
 contact-of-one-or-two-requires-2 : tie.Need-contact-of-one-or-two-requires-2
-contact-of-one-or-two-requires-2 c κs = has-rows _ _ _ _ (c .before .before .before .before .before .before .before .before .before .before .before .pre)
+contact-of-one-or-two-requires-2 c κs = search has-rows
 
 warmstart-requires : tie.Need-warmstart-requires
 warmstart-requires c κs = search needs
 
 kept-requires : tie.Need-kept-requires
 unfolding routine kindOf kinds
-kept-requires c κs = made-rows _ _ _ _ (c .before .before .before .before .before .before .before .before .before .before .before .before .before .before .before .pre) 0 _ (c .before .before .before .contact-of-one-or-two2 .ensures) (c .warmstart .ensures)
+kept-requires c κs =
+    let again = c .before .before .before in
+    let start = again .before .before .before .before .before .before .before .before .before .before .before .before in
+    made-rows _ _ _ _ (start .pre) 0 _ (again .contact-of-one-or-two2 .ensures) (c .warmstart .ensures)
 
 contact-of-one-or-two-requires-3 : tie.Need-contact-of-one-or-two-requires-3
-contact-of-one-or-two-requires-3 c κs = has-rows _ _ _ _ (c .before .before .before .before .before .before .before .before .before .before .before .pre)
+contact-of-one-or-two-requires-3 c κs = search has-rows
 
 over-points-requires : tie.Need-over-points-requires
 over-points-requires c κs = search needs
 
 kept-requires-2 : tie.Need-kept-requires-2
 unfolding routine kindOf kinds
-kept-requires-2 c κs = made-rows _ _ _ _ (c .before .before .before .before .before .before .before .before .before .before .before .before .before .before .before .pre) 1 _ (c .before .before .before .contact-of-one-or-two3 .ensures) (c .over-points .ensures)
+kept-requires-2 c κs =
+    let again = c .before .before .before in
+    let start = again .before .before .before .before .before .before .before .before .before .before .before .before in
+    made-rows _ _ _ _ (start .pre) 1 _ (again .contact-of-one-or-two3 .ensures) (c .over-points .ensures)
 
 contact-of-one-or-two-requires-4 : tie.Need-contact-of-one-or-two-requires-4
-contact-of-one-or-two-requires-4 c κs = has-rows _ _ _ _ (c .before .before .before .before .before .before .before .before .before .before .before .pre)
+contact-of-one-or-two-requires-4 c κs = search has-rows
 
 over-points-requires-2 : tie.Need-over-points-requires-2
 over-points-requires-2 c κs = search needs
 
 kept-requires-3 : tie.Need-kept-requires-3
 unfolding routine kindOf kinds
-kept-requires-3 c κs = made-rows _ _ _ _ (c .before .before .before .before .before .before .before .before .before .before .before .before .before .before .before .pre) 2 _ (c .before .before .before .contact-of-one-or-two4 .ensures) (c .over-points2 .ensures)
+kept-requires-3 c κs =
+    let again = c .before .before .before in
+    let start = again .before .before .before .before .before .before .before .before .before .before .before .before in
+    made-rows _ _ _ _ (start .pre) 2 _ (again .contact-of-one-or-two4 .ensures) (c .over-points2 .ensures)
 
 contact-of-one-or-two-requires-5 : tie.Need-contact-of-one-or-two-requires-5
-contact-of-one-or-two-requires-5 c κs = has-rows _ _ _ _ (c .before .before .before .before .before .before .before .before .before .before .before .pre)
+contact-of-one-or-two-requires-5 c κs = search has-rows
 
 over-points-requires-3 : tie.Need-over-points-requires-3
 over-points-requires-3 c κs = search needs
 
 kept-requires-4 : tie.Need-kept-requires-4
 unfolding routine kindOf kinds
-kept-requires-4 c κs = made-rows _ _ _ _ (c .before .before .before .before .before .before .before .before .before .before .before .before .before .before .before .pre) 3 _ (c .before .before .before .contact-of-one-or-two5 .ensures) (c .over-points3 .ensures)
+kept-requires-4 c κs =
+    let again = c .before .before .before in
+    let start = again .before .before .before .before .before .before .before .before .before .before .before .before in
+    made-rows _ _ _ _ (start .pre) 3 _ (again .contact-of-one-or-two5 .ensures) (c .over-points3 .ensures)
 
 pair-of-one-requires : tie.Need-pair-of-one-requires
 pair-of-one-requires c κs = search needs
@@ -69,17 +81,20 @@ same-length-2 c = search needs
 
 returns : tie.Need-returns
 unfolding kindAbove kinds
-returns c = no-pair _ _ _ _ (c .before .before .before .before .before .before .before .before .before .before .before .before .pre) 4 (c .before .before .match .keys5) refl (c .before .before .before .before .before .before .contact-of-one-or-two .ensures) (c .before .pair-of-one .ensures) (c .if1 .taken)
+returns c = search no-pair depth 20
 
 contact-of-one-or-two-requires-6 : tie.Need-contact-of-one-or-two-requires-6
-contact-of-one-or-two-requires-6 c κs = has-rows _ _ _ _ (c .before .before .before .before .before .before .before .before .before .before .before .before .before .pre)
+contact-of-one-or-two-requires-6 c κs = search has-rows
 
 solve-pair-requires : tie.Need-solve-pair-requires
 solve-pair-requires c κs = search needs
 
 kept-requires-5 : tie.Need-kept-requires-5
 unfolding routine kindOf kinds
-kept-requires-5 c κs = made-rows _ _ _ _ (c .before .before .before .before .before .before .before .before .before .before .before .before .before .before .before .before .before .pre) 4 _ (c .before .before .before .contact-of-one-or-two6 .ensures) (c .solve-pair .ensures)
+kept-requires-5 c κs =
+    let again = c .before .before .before in
+    let start = again .before .before .before .before .before .before .before .before .before .before .before .before .before .before in
+    made-rows _ _ _ _ (start .pre) 4 _ (again .contact-of-one-or-two6 .ensures) (c .solve-pair .ensures)
 
 same-length-3 : tie.Need-same-length-3
 same-length-3 c = search needs
@@ -89,7 +104,16 @@ same-length-4 c = search needs
 
 returns-2 : tie.Need-returns-2
 unfolding routine kindOf kinds kindAbove pairOfOne pointsFor
-returns-2 c = by-kind-of-one _ _ _ _ (c .before .before .before .before .before .before .before .before .before .before .before .before .before .before .before .before .before .before .before .before .pre) 0 (c .before .before .before .before .before .before .before .before .before .before .match .keys1) refl (λ _. refl) (c .before .before .before .before .before .before .before .before .before .before .before .before .before .before .contact-of-one-or-two .ensures) (c .before .before .before .before .before .before .before .before .contact-of-one-or-two2 .ensures) (c .before .before .before .before .before .before .before .before .before .before .before .velocities-in .ensures) (c .before .before .before .before .before .warmstart .ensures) (c .before .before .before .before .kept .ensures)
+returns-2 c =
+    let done = c .before .before .before .before in
+    let work = done .before in
+    let again = work .before .before .before in
+    let which = again .before .before in
+    let moving = which .before in
+    let read = moving .before .before .before in
+    let start = read .before .before .before .before .before .before in
+    by-kind-of-one _ _ _ _ (start .pre) 0 (which .match .keys1) refl (λ _. refl) (read .contact-of-one-or-two .ensures)
+    (again .contact-of-one-or-two2 .ensures) (moving .velocities-in .ensures) (work .warmstart .ensures) (done .kept .ensures)
 
 same-length-5 : tie.Need-same-length-5
 same-length-5 c = search needs
@@ -99,7 +123,16 @@ same-length-6 c = search needs
 
 returns-3 : tie.Need-returns-3
 unfolding routine kindOf kinds kindAbove pairOfOne pointsFor
-returns-3 c = by-kind-of-one _ _ _ _ (c .before .before .before .before .before .before .before .before .before .before .before .before .before .before .before .before .before .before .before .before .pre) 1 (c .before .before .before .before .before .before .before .before .before .before .match .keys2) refl (λ _. refl) (c .before .before .before .before .before .before .before .before .before .before .before .before .before .before .contact-of-one-or-two .ensures) (c .before .before .before .before .before .before .before .before .contact-of-one-or-two3 .ensures) (c .before .before .before .before .before .before .before .before .before .before .before .velocities-in .ensures) (c .before .before .before .before .before .over-points .ensures) (c .before .before .before .before .kept2 .ensures)
+returns-3 c =
+    let done = c .before .before .before .before in
+    let work = done .before in
+    let again = work .before .before .before in
+    let which = again .before .before in
+    let moving = which .before in
+    let read = moving .before .before .before in
+    let start = read .before .before .before .before .before .before in
+    by-kind-of-one _ _ _ _ (start .pre) 1 (which .match .keys2) refl (λ _. refl) (read .contact-of-one-or-two .ensures)
+    (again .contact-of-one-or-two3 .ensures) (moving .velocities-in .ensures) (work .over-points .ensures) (done .kept2 .ensures)
 
 same-length-7 : tie.Need-same-length-7
 same-length-7 c = search needs
@@ -109,7 +142,16 @@ same-length-8 c = search needs
 
 returns-4 : tie.Need-returns-4
 unfolding routine kindOf kinds kindAbove pairOfOne pointsFor
-returns-4 c = by-kind-of-one _ _ _ _ (c .before .before .before .before .before .before .before .before .before .before .before .before .before .before .before .before .before .before .before .before .pre) 2 (c .before .before .before .before .before .before .before .before .before .before .match .keys3) refl (λ _. refl) (c .before .before .before .before .before .before .before .before .before .before .before .before .before .before .contact-of-one-or-two .ensures) (c .before .before .before .before .before .before .before .before .contact-of-one-or-two4 .ensures) (c .before .before .before .before .before .before .before .before .before .before .before .velocities-in .ensures) (c .before .before .before .before .before .over-points2 .ensures) (c .before .before .before .before .kept3 .ensures)
+returns-4 c =
+    let done = c .before .before .before .before in
+    let work = done .before in
+    let again = work .before .before .before in
+    let which = again .before .before in
+    let moving = which .before in
+    let read = moving .before .before .before in
+    let start = read .before .before .before .before .before .before in
+    by-kind-of-one _ _ _ _ (start .pre) 2 (which .match .keys3) refl (λ _. refl) (read .contact-of-one-or-two .ensures)
+    (again .contact-of-one-or-two4 .ensures) (moving .velocities-in .ensures) (work .over-points2 .ensures) (done .kept3 .ensures)
 
 same-length-9 : tie.Need-same-length-9
 same-length-9 c = search needs
@@ -119,7 +161,16 @@ same-length-10 c = search needs
 
 returns-5 : tie.Need-returns-5
 unfolding routine kindOf kinds kindAbove pairOfOne pointsFor
-returns-5 c = by-kind-of-one _ _ _ _ (c .before .before .before .before .before .before .before .before .before .before .before .before .before .before .before .before .before .before .before .before .pre) 3 (c .before .before .before .before .before .before .before .before .before .before .match .keys4) refl (λ _. refl) (c .before .before .before .before .before .before .before .before .before .before .before .before .before .before .contact-of-one-or-two .ensures) (c .before .before .before .before .before .before .before .before .contact-of-one-or-two5 .ensures) (c .before .before .before .before .before .before .before .before .before .before .before .velocities-in .ensures) (c .before .before .before .before .before .over-points3 .ensures) (c .before .before .before .before .kept4 .ensures)
+returns-5 c =
+    let done = c .before .before .before .before in
+    let work = done .before in
+    let again = work .before .before .before in
+    let which = again .before .before in
+    let moving = which .before in
+    let read = moving .before .before .before in
+    let start = read .before .before .before .before .before .before in
+    by-kind-of-one _ _ _ _ (start .pre) 3 (which .match .keys4) refl (λ _. refl) (read .contact-of-one-or-two .ensures)
+    (again .contact-of-one-or-two5 .ensures) (moving .velocities-in .ensures) (work .over-points3 .ensures) (done .kept4 .ensures)
 
 same-length-11 : tie.Need-same-length-11
 same-length-11 c = search needs
@@ -129,7 +180,17 @@ same-length-12 c = search needs
 
 returns-6 : tie.Need-returns-6
 unfolding routine kindOf kinds kindAbove
-returns-6 c = by-kind _ _ _ _ (c .before .before .before .before .before .before .before .before .before .before .before .before .before .before .before .before .before .before .before .before .before .before .pre) 4 (c .before .before .before .before .before .before .before .before .before .before .before .before .match .keys5) refl (c .before .before .before .before .before .before .before .before .before .before .before .before .before .before .before .before .contact-of-one-or-two .ensures) (c .before .before .before .before .before .before .before .before .before .before .before .pair-of-one .ensures) (c .before .before .before .before .before .before .before .before .before .before .if1 .left) (c .before .before .before .before .before .before .before .before .contact-of-one-or-two6 .ensures) (c .before .before .before .before .before .before .before .before .before .before .before .before .before .velocities-in .ensures) (c .before .before .before .before .before .solve-pair .ensures) (c .before .before .before .before .kept5 .ensures)
+returns-6 c =
+    let done = c .before .before .before .before in
+    let work = done .before in
+    let again = work .before .before .before in
+    let two = again .before .before in
+    let which = two .before .before in
+    let moving = which .before in
+    let read = moving .before .before .before in
+    let start = read .before .before .before .before .before .before in
+    by-kind _ _ _ _ (start .pre) 4 (which .match .keys5) refl (read .contact-of-one-or-two .ensures) (two .before .pair-of-one .ensures) (two .if1 .left)
+    (again .contact-of-one-or-two6 .ensures) (moving .velocities-in .ensures) (work .solve-pair .ensures) (done .kept5 .ensures)
 
 same-length-13 : tie.Need-same-length-13
 same-length-13 c = search needs
@@ -139,7 +200,10 @@ same-length-14 c = search needs
 
 returns-7 : tie.Need-returns-7
 unfolding kinds
-returns-7 c = no-kind _ _ _ _ (c .before .before .before .before .before .before .before .before .before .before .pre) (omega arith)
+returns-7 c =
+    let read = c .before .before .before .before in
+    let start = read .before .before .before .before .before .before in
+    no-kind _ _ _ _ (start .pre) (omega arith)
 
 pub step-on-spec : {M : Type 1} → statement M
 step-on-spec =

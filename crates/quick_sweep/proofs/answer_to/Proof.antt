@@ -1,5 +1,5 @@
-use Rattle.quick_sweep.proofs.Flags.{still-right}
 -- `quick_sweep::answer_to` meets its contract. Turned away, or worked. Assumes nothing.
+use Rattle.quick_sweep.proofs.Flags.{still-right}
 use borrow.Author.Needs.{needs}
 use Rattle.quick_sweep.proofs.answer_to.Statement.{statement}
 use Rattle.quick_sweep.proofs.answer_to.Tie as tie
@@ -8,7 +8,10 @@ turned-away-requires : tie.Need-turned-away-requires
 turned-away-requires c κs = search needs
 
 step-on-requires : tie.Need-step-on-requires
-step-on-requires c κs = ((c .before .before .before .before .before .turned-away .ensures .0)) .trusted (c .before .before .if1 .taken)
+step-on-requires c κs =
+    let none = c .before .before in
+    let asked = none .before .before .before in
+    (asked .turned-away .ensures .0) .trusted (none .if1 .taken)
 
 same-length : tie.Need-same-length
 same-length c = search needs
@@ -20,7 +23,10 @@ same-length-3 : tie.Need-same-length-3
 same-length-3 c = search needs
 
 returns : tie.Need-returns
-returns c = ((c .before .before .before .before .step-on .ensures), still-right _ _ _ ((c .before .before .before .before .before .before .before .before .before .before .turned-away .ensures .1)) (c .before .before .before .before .step-on .ensures))
+returns c =
+    let worked = c .before .before .before .before in
+    let asked = worked .before .before .before .before .before .before in
+    (worked .step-on .ensures, still-right _ _ _ (asked .turned-away .ensures .1) (worked .step-on .ensures))
 
 same-length-4 : tie.Need-same-length-4
 same-length-4 c = search needs
@@ -32,7 +38,9 @@ same-length-6 : tie.Need-same-length-6
 same-length-6 c = search needs
 
 returns-2 : tie.Need-returns-2
-returns-2 c = ((((c .before .before .before .turned-away .ensures .0)) .turned) (c .if1 .left), (c .before .before .before .turned-away .ensures .1))
+returns-2 c =
+    let asked = c .before .before .before in
+    ((asked .turned-away .ensures .0) .turned (c .if1 .left), asked .turned-away .ensures .1)
 
 pub answer-to-spec : {M : Type 1} → statement M
 answer-to-spec =

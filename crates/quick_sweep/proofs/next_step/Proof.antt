@@ -1,5 +1,5 @@
-use Rattle.quick_sweep.proofs.SoFar.{step-done}
 -- `quick_sweep::next_step` meets its contract. By what its calls ensure. Assumes nothing.
+use Rattle.quick_sweep.proofs.SoFar.{step-done}
 use borrow.Author.Needs.{needs}
 use Rattle.quick_sweep.proofs.next_step.Statement.{statement}
 use Rattle.quick_sweep.proofs.next_step.Tie as tie
@@ -26,7 +26,11 @@ same-length-4 : tie.Need-same-length-4
 same-length-4 c = search needs
 
 returns : tie.Need-returns
-returns c = (step-done _ _ _ _ (c .before .before .before .before .before .before .before .before .before .before .before .before .before .before .step-at .ensures) ((c .before .before .before .before .before .before .before .before .before .before .answer-to .ensures .0)) (c .before .before .put-answer .ensures), (c .before .before .before .before .before .before .before .before .before .before .answer-to .ensures .1))
+returns c =
+    let told = c .before .before in
+    let answered = told .before .before .before .before .before .before .before .before in
+    let given = answered .before .before .before .before in
+    (step-done _ _ _ _ (given .step-at .ensures) (answered .answer-to .ensures .0) (told .put-answer .ensures), answered .answer-to .ensures .1)
 
 pub next-step-spec : {M : Type 1} → statement M
 next-step-spec =

@@ -1,7 +1,7 @@
+-- `quick_sweep::raise` meets its contract. By whether the contact has a flag. Assumes nothing.
 use mathlib.Core.Path.{refl}
 use Rattle.quick_sweep.proofs.Flags.{none-put}
 use Rattle.quick_sweep.specs.Flags.{flagged}
--- `quick_sweep::raise` meets its contract. By whether the contact has a flag. Assumes nothing.
 use borrow.Author.Needs.{needs}
 use Rattle.quick_sweep.proofs.raise.Statement.{statement}
 use Rattle.quick_sweep.proofs.raise.Tie as tie

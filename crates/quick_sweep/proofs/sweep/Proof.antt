@@ -1,6 +1,6 @@
+-- `quick_sweep::sweep` meets its contract. At first no flag is up. Assumes nothing.
 use Rattle.base_places.specs.Places.{mostContacts}
 use Rattle.quick_sweep.proofs.Flags.{none-up}
--- `quick_sweep::sweep` meets its contract. At first no flag is up. Assumes nothing.
 use borrow.Author.Needs.{needs}
 use Rattle.quick_sweep.proofs.sweep.Statement.{statement}
 use Rattle.quick_sweep.proofs.sweep.Tie as tie

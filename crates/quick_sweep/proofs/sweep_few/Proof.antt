@@ -1,5 +1,5 @@
-use Rattle.quick_sweep.proofs.Flags.{none-up}
 -- `quick_sweep::sweep_few` meets its contract. At first no flag is up. Assumes nothing.
+use Rattle.quick_sweep.proofs.Flags.{none-up}
 use borrow.Author.Needs.{needs}
 use Rattle.quick_sweep.proofs.sweep_few.Statement.{statement}
 use Rattle.quick_sweep.proofs.sweep_few.Tie as tie

@@ -1,5 +1,5 @@
-use Rattle.quick_sweep.proofs.Flags.{by-flag, put-right}
 -- `quick_sweep::turned_away` meets its contract. By the flag, or by the look. Assumes nothing.
+use Rattle.quick_sweep.proofs.Flags.{by-flag, put-right}
 use borrow.Author.Needs.{needs}
 use Rattle.quick_sweep.proofs.turned_away.Statement.{statement}
 use Rattle.quick_sweep.proofs.turned_away.Tie as tie
@@ -14,7 +14,10 @@ same-length : tie.Need-same-length
 same-length c = search needs
 
 returns : tie.Need-returns
-returns c = (by-flag _ _ _ (c .before .before .before .before .before .before .before .before .pre) (c .before .raised .ensures) (c .if1 .taken), (c .before .before .before .before .before .before .before .before .pre))
+returns c =
+    let asked = c .before in
+    let start = asked .before .before .before .before .before .before .before in
+    (by-flag _ _ _ (start .pre) (asked .raised .ensures) (c .if1 .taken), start .pre)
 
 look-requires : tie.Need-look-requires
 look-requires c κs = search needs
@@ -26,7 +29,12 @@ same-length-2 : tie.Need-same-length-2
 same-length-2 c = search needs
 
 returns-2 : tie.Need-returns-2
-returns-2 c = ((c .before .before .before .before .before .look .ensures), put-right _ _ _ (c .before .before .before .before .before .before .before .before .before .before .before .before .before .before .pre) (c .before .before .before .before .before .look .ensures) (c .before .before .before .before .if2 .taken) (c .before .before .raise .ensures))
+returns-2 c =
+    let put = c .before .before in
+    let none = put .before .before in
+    let looked = none .before in
+    let start = looked .before .before .before .before .before .before .before .before .before in
+    (looked .look .ensures, put-right _ _ _ (start .pre) (looked .look .ensures) (none .if2 .taken) (put .raise .ensures))
 
 same-length-3 : tie.Need-same-length-3
 same-length-3 c = search needs
