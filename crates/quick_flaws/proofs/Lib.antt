@@ -1,3 +1,4 @@
 pub mod Kept
 pub mod Knowing
 pub mod Stays
+pub mod Turns

@@ -1,7 +1,7 @@
 -- The statement of specs/Flaws.antt: a contact that is vouched for stays so. Assumes nothing.
 use Prim.Native.Nat.{ℕ}
 use mathlib.Core.Path.{_≡_, refl, ap, _∙_}
-use mathlib.Core.Bool.{Bool, true, false, not, _||_}
+use mathlib.Core.Bool.{Bool, true, false, not}
 use borrow.Author.Tests.{eqb-true, ltb-true}
 use lib.Dec.{ltb}
 use Rattle.base_words.proofs.Said.{none-l, none-r, so}
@@ -26,6 +26,7 @@ use Rattle.step_promises.proofs.Promises.{bodies-passed, finite-done, known, sa
 use Rattle.step_promises.proofs.Pushing.{done-loads}
 use Rattle.step_promises.specs.Promises.{FiniteCells, FiniteResult}
 use Rattle.quick_flaws.proofs.Kept.{none-at, point-stays-finite, point-stays-in-range}
+use Rattle.quick_flaws.proofs.Turns.{neither}
 use Rattle.quick_flaws.specs.Flaws.{StaysVouched, flaw, halfAt, ofContact, vouched}
 
 -- what it is to be vouched for, one number after the other
@@ -76,9 +77,6 @@ module _ (which : Cell → Bool) (c d : Contact) (is-stored : d ≡ stored which
       let kept = point-stays-in-range which (point x c) (point x d) (stored-point which c d is-stored x was) (c .head)
       (not-at (pointOut (c .head)) c old x was) (new x was) in
       ap (λ (h : ContactHead). pointOut h (point x d)) head-kept ∙ kept)
-
-neither : {p q : Bool} → p ≡ false → q ≡ false → (p || q) ≡ false
-neither e f = rw (e, f)
 
 -- every point below count has finite cells, as a done step's promise has it
 at-points : (s : ContactSolved) → FiniteResult s → (x : Place) → ltb (number x) (s .contact .head .count) ≡ true → FiniteCells (point x (s .contact))

@@ -27,6 +27,7 @@ use Rattle.step_kinds.specs.declared.Rule.{Rule}
 use Rattle.step_kinds.specs.declared.Rule.the-variants.{WarmNormal, WarmTangent, Normal, Friction, Restitution}
 use Rattle.step_contact.specs.Places.{Place, at-a, at-b, number, point}
 use Rattle.step_values.specs.Values.{belowCount, finiteVel, lostImpulse, somePoint}
+use Rattle.quick_flaws.proofs.Turns.{neither}
 use Rattle.quick_tested.proofs.Zeros.{Zero}
 use Rattle.quick_tested.proofs.Implied.{Two, neg-finite, of-difference}
 use Rattle.quick_tested.proofs.Pushes.{Direction, Side, Told, Unmoved, pair-tells, pick, push-tells, told-by, told-then, vel}
@@ -125,9 +126,6 @@ module _ (x : Side) (h : ContactHead) (p : ContactPoint) (v : Vels) where
       by-place : (b : Bool) → cond b (warmNormalAt h p v) (record { point = p; vels = v }) .point ≡ p
       by-place true = refl
       by-place false = refl
-
-neither : {p q : Bool} → p ≡ false → q ≡ false → (p || q) ≡ false
-neither e f = rw (e, f)
 
 nothing : (p q : Bool) → (p && false || q && false) ≡ false
 nothing true true = refl

@@ -1,6 +1,7 @@
 // Numbers 8, 9 and 10 of document 01's table: what a step refuses by the floats of its contact, by
 // the velocities of its bodies, and by what it would write. Each public function is true where its
-// number's condition holds. They read; nothing here changes a contact.
+// number's condition holds, but for finite_head and finite_point, 8's parts, which quick_flaws asks
+// one after the other. They read; nothing here changes a contact.
 use base_places::Cell;
 use elem_leaves::is_finite;
 use elem_normal::ContactConstraintNormalPart;
@@ -34,7 +35,7 @@ fn finite_vel(v: SolverVel) -> bool
     is_finite(v.linear.x) & is_finite(v.linear.y) & is_finite(v.angular)
 }
 
-fn finite_head(head: ContactHead) -> bool
+pub fn finite_head(head: ContactHead) -> bool
     ensures { λ r. ⌜ r ≡ finiteHead head ⌝ }
 {
     is_finite(head.dir1.x)
@@ -76,7 +77,7 @@ fn finite_tangent(part: ContactConstraintTangentPart) -> bool
         & is_finite(part.r)
 }
 
-fn finite_point(point: ContactPoint) -> bool
+pub fn finite_point(point: ContactPoint) -> bool
     ensures { λ r. ⌜ r ≡ finitePoint point ⌝ }
 {
     let normal_part = point.normal_part;

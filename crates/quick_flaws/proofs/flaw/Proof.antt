@@ -2,10 +2,10 @@
 use Rattle.base_refusals.proofs.Chain.{hit, miss, none}
 use Rattle.quick_flaws.specs.Flaws.{flaw, halfAt, ofContact}
 use Rattle.step_rules.specs.Step.{checks}
+use Rattle.quick_flaws.proofs.Turns.{found}
 use borrow.Author.Needs.{needs}
 use Rattle.quick_flaws.proofs.flaw.Statement.{statement}
 use Rattle.quick_flaws.proofs.flaw.Tie as tie
-use Rattle.quick_flaws.proofs.flaw.Reads as reads
 
 wrong-bodies-requires : tie.Need-wrong-bodies-requires
 wrong-bodies-requires c κs = search needs
@@ -21,15 +21,15 @@ returns-2 : tie.Need-returns-2
 unfolding flaw ofContact checks halfAt
 returns-2 c = search (hit, miss)
 
-not-finite-requires : tie.Need-not-finite-requires
-not-finite-requires c κs = search needs
+not-finite-by-turns-requires : tie.Need-not-finite-by-turns-requires
+not-finite-by-turns-requires c κs = search found
 
 returns-3 : tie.Need-returns-3
 unfolding flaw ofContact checks halfAt
 returns-3 c = search (hit, miss) depth 12
 
-out-of-range-requires : tie.Need-out-of-range-requires
-out-of-range-requires c κs = search needs
+out-of-range-by-turns-requires : tie.Need-out-of-range-by-turns-requires
+out-of-range-by-turns-requires c κs = search found
 
 returns-4 : tie.Need-returns-4
 unfolding flaw ofContact checks halfAt
@@ -47,8 +47,8 @@ flaw-spec =
     returns
     wrong-count-requires
     returns-2
-    not-finite-requires
+    not-finite-by-turns-requires
     returns-3
-    out-of-range-requires
+    out-of-range-by-turns-requires
     returns-4
     returns-5)
