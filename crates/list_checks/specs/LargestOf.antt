@@ -1,4 +1,5 @@
--- What a list is looked through for once, to judge 2 and 3 by it: its largest contact number and its largest kind. Assumes nothing.
+-- What a list is looked through for once, to judge 2 and 3 by it: its largest contact number and its largest kind. For the functions of
+-- this crate, which no other crate sees. Assumes nothing.
 use Prim.Native.Nat.{ℕ, zero, suc, max}
 use mathlib.Core.List.{List}
 use Rattle.base_places.specs.Places.{stepWidth}

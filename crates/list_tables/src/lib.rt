@@ -1,5 +1,5 @@
 // The lent stretches as tables of rows: a row is lent as a part and read as a record. A row that a
-// table does not have reads as zero, so no public function here asks anything of its caller.
+// table does not have reads as zero; velocity_in and contact_in ask that it is there.
 use base_places::ACCUMULATOR;
 use base_places::BODY_WIDTH;
 use base_places::FLOATS_WIDTH;

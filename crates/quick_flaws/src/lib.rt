@@ -1,6 +1,5 @@
-// What is wrong with a contact. Where nothing is, that stays so from step to step; a list then judges the later steps on
-// it by their kind, the velocities and what they would write. The tests of 8 and 9 come one after the other here, where
-// step_values makes all at once: a contact's first step in a list waits for them.
+// What is wrong with a contact. Where nothing is, that stays so from step to step, so that it is asked once. The tests of 8
+// and 9 come one after the other here, where step_values makes all at once: a contact's first step in a list waits for them.
 use step_contact::Contact;
 use step_contact::ContactHead;
 use step_contact::ContactPoint;

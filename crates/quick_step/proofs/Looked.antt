@@ -116,9 +116,9 @@ module _ (bodies : List Float) (numbers : List ℕ) (floats : List Float) (s : S
           (take _ (lt-ltb _ _ there) (e ∙ ap (triedKnowing (its bodies numbers floats s) (s .kind) (vels bodies numbers floats s)) is-flaw
           ∙ judged-by-flaw (rows bodyWidth bodies) (its bodies numbers floats s) (s .kind) (vels bodies numbers floats s)))
 
-      pub by-kind : above ≡ true → Looked s t 3
+      pub no-such-kind : above ≡ true → Looked s t 3
       unfolding triedKnowing askedKnowing checks holdsKnowing
-      by-kind h = by-chain 3 (λ e. omega arith) (hit 3 _ _ e3 h)
+      no-such-kind h = by-chain 3 (λ e. omega arith) (hit 3 _ _ e3 h)
 
       module _ (n3 : above ≡ false) where
         pub by-flaw : (eqb f 5 || eqb f 6) ≡ true → Looked s t f

@@ -112,7 +112,7 @@ module _ (bodies : List Float) (numbers : List ℕ) (floats : List Float) (k : �
   pub has-bodies : wrongBodies (contactAt numbers floats k .head) (rows bodyWidth bodies) ≡ false
   has-bodies = bodies-right (rows bodyWidth bodies) numbers floats k (trust .sound)
 
-  -- what `contact_of_one_or_two` asks
+  -- what `its_contact` asks
   pub has-rows : (k < rows numbersWidth numbers) × ((k < rows floatsWidth floats) × (wrongCount (contactAt numbers floats k .head) ≡ false))
   has-rows =
       (numbers-there (rows bodyWidth bodies) numbers floats k (trust .sound), (has-floats, passed (rows bodyWidth bodies) (contactAt numbers floats k) (trust .sound) .count))

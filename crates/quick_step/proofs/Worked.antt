@@ -20,12 +20,13 @@ use Rattle.step_shape.specs.Shape.{kindAbove, pairOfOne, wrongBodies}
 use Rattle.step_values.specs.Values.{notFiniteVels}
 use Rattle.step_rules.proofs.Chain.{hit, miss}
 use Rattle.step_rules.specs.Step.{firstOr, tried}
+use Rattle.step_rules.specs.declared.Outcome.the-variants.{Refused}
 use Rattle.list_cells.specs.declared.Answer.{Answer}
 use Rattle.list_rules.specs.Sweep.{ifThere, newBodies, stepOn, tables, velsAt}
 use Rattle.list_tables.specs.Tables.{contactAt}
 use Rattle.list_tables.specs.declared.Step.{Step}
 use Rattle.quick_tested.proofs.Quick.{quick-step}
-use Rattle.quick_step.specs.Trusted.{Left, Trusted, tested, turnedAway}
+use Rattle.quick_step.specs.Trusted.{Left, Trusted, tested}
 use Rattle.quick_step.proofs.AsRead.{away, its, raw, read-itself, stepped, vels}
 use Rattle.quick_step.proofs.There.{has-bodies, has-floats}
 
@@ -77,14 +78,18 @@ module _ (bodies : List Float) (numbers : List ℕ) (floats : List Float) (s : S
       take _ (lt-ltb _ _ (has-floats bodies numbers floats (s .contact) trust)) (sym quick)
 
   -- 3, and 7
-  pub no-kind : length kinds ≤ s .kind → turnedAway 3 (tables bodies numbers floats) ≡ stepOn s (tables bodies numbers floats)
-  unfolding kindAbove
-  no-kind past = away bodies numbers floats s 3 (hit 3 _ _ refl (le-leb _ _ past) ∙ left-to-ask)
+  away-by : (n : ℕ) {a : Answer} → Refused n ≡ raw bodies numbers floats s → a ≡ record { number = n; branch = 0 }
+      → record { answer = a; after = tables bodies numbers floats } ≡ stepOn s (tables bodies numbers floats)
+  away-by n e is = rw is (away bodies numbers floats s n e)
 
-  pub no-pair : {c : Contact} {paired : Bool} (n : ℕ) → s .kind ≡ n → kindAbove n ≡ false → c ≡ mine → paired ≡ pairOfOne (s .kind) (c .head) → paired ≡ true
-      → turnedAway 7 (tables bodies numbers floats) ≡ stepOn s (tables bodies numbers floats)
+  pub no-kind : {a : Answer} → length kinds ≤ s .kind → a ≡ record { number = 3; branch = 0 } → record { answer = a; after = tables bodies numbers floats } ≡ stepOn s (tables bodies numbers floats)
+  unfolding kindAbove
+  no-kind past = away-by 3 (hit 3 _ _ refl (le-leb _ _ past) ∙ left-to-ask)
+
+  pub no-pair : {c : Contact} {paired : Bool} {a : Answer} (n : ℕ) → s .kind ≡ n → kindAbove n ≡ false → c ≡ mine → paired ≡ pairOfOne (s .kind) (c .head) → paired ≡ true
+      → a ≡ record { number = 7; branch = 0 } → record { answer = a; after = tables bodies numbers floats } ≡ stepOn s (tables bodies numbers floats)
   no-pair n e known read e7 h =
-      away bodies numbers floats s 7 (miss 3 _ _ (sym (ap kindAbove e ∙ known)) refl (hit 7 _ _ (e7 ∙ ap (λ (c : Contact). pairOfOne (s .kind) (c .head)) read) h) ∙ left-to-ask)
+      away-by 7 (miss 3 _ _ (sym (ap kindAbove e ∙ known)) refl (hit 7 _ _ (e7 ∙ ap (λ (c : Contact). pairOfOne (s .kind) (c .head)) read) h) ∙ left-to-ask)
 
   -- a kind of the table
   asked-all : kindAbove (s .kind) ≡ false → {paired : Bool} → paired ≡ pairOfOne (s .kind) (mine .head) → paired ≡ false → tested made ≡ raw bodies numbers floats s

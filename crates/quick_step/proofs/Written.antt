@@ -10,17 +10,18 @@ use Rattle.step_rules.specs.Step.{firstOr}
 use Rattle.step_rules.specs.declared.Outcome.{Outcome}
 use Rattle.step_values.specs.Values.{notFiniteVels}
 use Rattle.list_cells.specs.Cells.{putImpulses, putVel}
+use Rattle.list_cells.specs.declared.Answer.{Answer}
 use Rattle.list_rules.specs.Sweep.{answered, newBodies, newFloats}
 use Rattle.list_tables.specs.Tables.{stepAs}
 use Rattle.quick_step.specs.Trusted.{Left, tested}
 
 module _ (s : ContactSolved) (k kind : ℕ) (bodies floats : List Float) {lost : Bool} (told : lost ≡ notFiniteVels (s .vels)) where
-  pub not-kept : lost ≡ true → Left s k kind bodies floats (record { number = 10; branch = 0 }) bodies floats
+  pub not-kept : {a : Answer} → lost ≡ true → a ≡ record { number = 10; branch = 0 } → Left s k kind bodies floats a bodies floats
   unfolding tested answered newBodies newFloats
-  not-kept h =
+  not-kept h is =
       let refused = hit 10 [] s told h in
       record {
-        answer = ap answered refused;
+        answer = is ∙ ap answered refused;
         moved = ap (λ (o : Outcome). newBodies (s .contact .head) o bodies) refused;
         stored = ap (λ (o : Outcome). newFloats (stepAs k kind) o floats) refused;
       }

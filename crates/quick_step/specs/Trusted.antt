@@ -38,7 +38,7 @@ pub record Looked (s : Step) (t : Tables) (found : ℕ) : Type 0 where
 unfoldable pub tested : ContactSolved → Outcome
 tested s = firstOr (10 when notFiniteVels (s .vels) ∷ []) s
 
--- what is left of it, of contact k and its kind: the answer, the bodies and the floats
+-- what is left of it, of contact k and a step's kind: the answer, the bodies and the floats
 pub record Left (s : ContactSolved) (k kind : ℕ) (bodies floats : List Float) (a : Answer) (bodies′ floats′ : List Float) : Type 0 where
   pub answer : a ≡ answered (tested s)
   pub moved : bodies′ ≡ newBodies (s .contact .head) (tested s) bodies

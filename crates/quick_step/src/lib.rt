@@ -1,7 +1,7 @@
-// The quick engine's step on the tables. A contact is looked at once: where it has no flaw and the velocities of its
-// bodies are finite, it is trusted, and a step on it is worked without a look at its floats, on rows that are known to be
-// there, and tested once. Every other step is turned away without any work; so each routine is called in one place alone,
-// which is what lets the compiler put it there.
+// The quick engine's step on the tables. A contact is looked at until it is found without a flaw and the velocities of its
+// bodies finite; then it is trusted, and a step on it is worked without a look at its floats, on rows that are known to be
+// there, and tested once. Every other step is turned away without any work: a kind is worked in one arm alone, and no
+// second, slower way works it, which is what lets the compiler put the routines there.
 use base_places::BODY_WIDTH;
 use base_places::FLOATS_WIDTH;
 use elem_velocity::Vels;
@@ -97,7 +97,7 @@ fn one_or_two(count: u16) -> u16
 }
 
 // Contact k, which is there and has one point or two.
-fn contact_of_one_or_two(numbers: &[u16], floats: &[f32], k: usize) -> Contact
+fn its_contact(numbers: &[u16], floats: &[f32], k: usize) -> Contact
     requires { ⌜ k < rows numbersWidth (now numbers) ⌝ }
     requires { ⌜ k < rows floatsWidth (now floats) ⌝ }
     requires { ⌜ wrongCount (contactAt (now numbers) (now floats) k .head) ≡ false ⌝ }
@@ -109,6 +109,13 @@ fn contact_of_one_or_two(numbers: &[u16], floats: &[f32], k: usize) -> Contact
     let a = read.a;
     let b = read.b;
     Contact { head, a, b }
+}
+
+// The answer of a step that is refused.
+fn numbered(number: u16) -> Answer
+    ensures { λ r. ⌜ r ≡ record { number = number; branch = 0 } ⌝ }
+{
+    Answer { number, branch: 0 }
 }
 
 // What was worked out of contact k is written, all of it, if its velocities are finite; its answer.
@@ -125,10 +132,7 @@ fn kept(
 {
     let after = solved.vels;
     if lost_vels(after) {
-        return Answer {
-            number: 10,
-            branch: 0,
-        };
+        return numbered(10);
     }
     let contact = solved.contact;
     let head = contact.head;
@@ -143,65 +147,41 @@ fn kept(
     }
 }
 
-// A step on a trusted contact. The contact is read in each arm, so that a kind reads what it uses, and what it made is
-// kept there, so that a kind stores what it stores.
+// A step on a trusted contact. Its numbers are read first; its floats in each arm, so that a kind reads what it uses, and
+// what was made is kept there, so that a kind stores what it stores.
 pub fn step_on(bodies: &mut [f32], numbers: &[u16], floats: &mut [f32], s: Step) -> Answer
     requires { ⌜ Trusted (tables (now bodies) (now numbers) (now floats)) (s .contact) ⌝ }
     ensures { λ r. ⌜ record { answer = r; after = tables (now (bodies .exit)) (now (numbers .entry)) (now (floats .exit)) } ≡ stepOn s (tables (now (bodies .entry)) (now (numbers .entry)) (now (floats .entry))) ⌝ }
 {
     let k = s.contact as usize;
-    let contact = contact_of_one_or_two(numbers, floats, k);
+    let contact = its_contact(numbers, floats, k);
     let head = contact.head;
     let vels = velocities_in(bodies, head);
     let kind = s.kind;
     match kind {
         0 => {
-            let contact = contact_of_one_or_two(numbers, floats, k);
-            kept(bodies, floats, k, kind, warmstart(contact, vels))
+            let made = warmstart(its_contact(numbers, floats, k), vels);
+            kept(bodies, floats, k, kind, made)
         }
         1 => {
-            let contact = contact_of_one_or_two(numbers, floats, k);
-            kept(
-                bodies,
-                floats,
-                k,
-                kind,
-                over_points(contact, Rule::Normal, vels),
-            )
+            let made = over_points(its_contact(numbers, floats, k), Rule::Normal, vels);
+            kept(bodies, floats, k, kind, made)
         }
         2 => {
-            let contact = contact_of_one_or_two(numbers, floats, k);
-            kept(
-                bodies,
-                floats,
-                k,
-                kind,
-                over_points(contact, Rule::Friction, vels),
-            )
+            let made = over_points(its_contact(numbers, floats, k), Rule::Friction, vels);
+            kept(bodies, floats, k, kind, made)
         }
         3 => {
-            let contact = contact_of_one_or_two(numbers, floats, k);
-            kept(
-                bodies,
-                floats,
-                k,
-                kind,
-                over_points(contact, Rule::Restitution, vels),
-            )
+            let made = over_points(its_contact(numbers, floats, k), Rule::Restitution, vels);
+            kept(bodies, floats, k, kind, made)
         }
         4 => {
             if pair_of_one(kind, head) {
-                return Answer {
-                    number: 7,
-                    branch: 0,
-                };
+                return numbered(7);
             }
-            let contact = contact_of_one_or_two(numbers, floats, k);
-            kept(bodies, floats, k, kind, solve_pair(contact, vels))
+            let made = solve_pair(its_contact(numbers, floats, k), vels);
+            kept(bodies, floats, k, kind, made)
         }
-        5..=65535 => Answer {
-            number: 3,
-            branch: 0,
-        },
+        5..=65535 => numbered(3),
     }
 }

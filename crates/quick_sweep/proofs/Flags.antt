@@ -54,9 +54,9 @@ module _ (flags : List ℕ) (t : Tables) (s : Step) (right : Trusting flags t) w
       by-case (no ne) = right k (sym (other-flag flags (s .contact) k ne) ∙ rw (← put) up)
 
 -- a step leaves every flag right
-pub still-right : (flags : List ℕ) (t : Tables) (s : Step) {a : Answer} {t′ : Tables} → Trusting flags t → record { answer = a; after = t′ } ≡ stepOn s t → Trusting flags t′
+pub stay-right : (flags : List ℕ) (t : Tables) (s : Step) {a : Answer} {t′ : Tables} → Trusting flags t → record { answer = a; after = t′ } ≡ stepOn s t → Trusting flags t′
 unfolding Trusting
-still-right flags t s right done k up = rw (ap (λ (x : Stepped Answer Tables). x .after) done) (stays-trusted s t k (right k up))
+stay-right flags t s right done k up = rw (ap (λ (x : Stepped Answer Tables). x .after) done) (stays-trusted s t k (right k up))
 
 -- at first no flag is up
 pub none-up : (n : ℕ) (t : Tables) → Trusting (replicate n 0) t

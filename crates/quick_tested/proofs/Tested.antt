@@ -1,4 +1,4 @@
--- The statement of specs/Tested.antt. Assumes nothing.
+-- Two statements of specs/Tested.antt, `ImpulsesFollow` and `OneTest`. Assumes nothing.
 use Prim.Native.Nat.{ℕ}
 use mathlib.Core.Path.{_≡_, refl, sym, _∙_}
 use mathlib.Core.Bool.{Bool, true, false, not, _&&_, _||_}
@@ -49,7 +49,9 @@ head-still first h e = search (none-l, none-r)
 head-still second h e = search (none-l, none-r)
 
 point-still : (y : Side) (h : ContactHead) (p : ContactPoint) → pointOut h p ≡ false
-    → floorMoves (body y h) (pick y (p .«normal_part» .«ii_torque_dir1») (p .«normal_part» .«ii_torque_dir2»)) (pick y (p .«tangent_part» .«ii_torque_dir1») (p .«tangent_part» .«ii_torque_dir2»)) ≡ false
+    → (let n = p .«normal_part» in
+    let t = p .«tangent_part» in
+    floorMoves (body y h) (pick y (n .«ii_torque_dir1») (n .«ii_torque_dir2»)) (pick y (t .«ii_torque_dir1») (t .«ii_torque_dir2»))) ≡ false
 unfolding pointOut
 point-still first h p e = search (none-l, none-r)
 point-still second h p e = search (none-l, none-r)

@@ -1,4 +1,5 @@
--- Document 01's number 10 for a contact without a flaw: it looks at the six numbers of the velocities alone. Assumes nothing.
+-- Statements about document 01's number 10: of a contact without a flaw it looks at the six numbers of the velocities alone. In each, a
+-- kind that needs two points has them. Assumes nothing.
 use Prim.Native.Nat.{ℕ, _<_}
 use mathlib.Core.Bool.{true, false, _||_}
 use mathlib.Core.List.{[], _∷_}
@@ -12,7 +13,8 @@ use Rattle.step_rules.specs.Step.{asRead, firstOr, tried}
 use Rattle.step_values.specs.Values.{finiteVel, lostImpulse, notFiniteVels, somePoint, unwritable}
 use Rattle.quick_flaws.specs.Flaws.{vouched}
 
--- where one body's velocity is finite after a step, every impulse to be written is, whatever contact and velocities are. Proved in proofs/Tested.antt
+-- where one body's velocity is finite after a step, every impulse to be written is, whatever else the contact and the velocities are.
+-- Proved in proofs/Tested.antt
 abbrev pub ImpulsesFollow : Type 0
 ImpulsesFollow =
     (c : Contact) (kind : ℕ) (v : Vels) → (pointsFor kind ≡ 2 → 1 < c .head .count)

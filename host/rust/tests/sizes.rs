@@ -1,6 +1,6 @@
 //! Sizes of the lent stretches: whole rows, equal rows, the largest sizes, empty stretches, and room to spare.
 mod common;
-use common::{falling, small, Lent, UNTOUCHED};
+use common::{bits, falling, small, Lent, UNTOUCHED};
 use romaludiv::*;
 
 const ONE: Done = Done {
@@ -197,4 +197,23 @@ fn room_may_be_larger_than_the_list_and_stays_as_it_is_there() {
     assert_eq!(lent.call(9), Ok(ONE));
     assert_eq!(lent.answer(0), (5, 0));
     assert!(lent.room[ANSWER_WIDTH..].iter().all(|&n| n == UNTOUCHED));
+}
+
+#[test]
+fn how_many_contacts_there_are_changes_no_answer() {
+    let (body, contact) = falling(0);
+    let kinds = [0, 1, 2, 4, 3, 1];
+    let outcome = |contacts: usize| {
+        let last = contacts - 1;
+        let steps = kinds.map(|kind| (last as u16, kind));
+        let mut lent = Lent::new(&[body], &vec![contact; contacts], &steps);
+        let told = lent.call(steps.len());
+        let answers = kinds.iter().enumerate().map(|(i, _)| lent.answer(i));
+        let answers: Vec<_> = answers.collect();
+        (told, answers, bits(&lent.bodies), lent.loads(last))
+    };
+    let alone = outcome(1);
+    for contacts in [2, 255, 256, 257, 1000, 16384] {
+        assert_eq!(outcome(contacts), alone, "{contacts} contacts");
+    }
 }

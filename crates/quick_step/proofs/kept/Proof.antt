@@ -8,8 +8,13 @@ use Rattle.quick_step.proofs.kept.Tie as tie
 lost-vels-requires : tie.Need-lost-vels-requires
 lost-vels-requires c κs = search needs
 
+numbered-requires : tie.Need-numbered-requires
+numbered-requires c κs = search needs
+
 returns : tie.Need-returns
-returns c = not-kept _ _ _ _ _ (c .before .lost-vels .ensures) (c .if1 .taken)
+returns c =
+    let found = c .before in
+    not-kept _ _ _ _ _ (found .before .lost-vels .ensures) (found .if1 .taken) (c .numbered .ensures)
 
 put-velocity-in-requires : tie.Need-put-velocity-in-requires
 put-velocity-in-requires c κs = search first-there
@@ -40,6 +45,7 @@ kept-spec =
     tie.close
     (tie.spec
     lost-vels-requires
+    numbered-requires
     returns
     put-velocity-in-requires
     put-velocity-in-requires-2

@@ -1,5 +1,5 @@
 -- `quick_step::look` meets its contract. Each return is the first condition that holds. Assumes nothing.
-use Rattle.quick_step.proofs.Looked.{by-flaw, by-kind, by-loss, by-pair, by-range, is-missing, is-trusted}
+use Rattle.quick_step.proofs.Looked.{by-flaw, by-loss, by-pair, by-range, is-missing, is-trusted, no-such-kind}
 use borrow.Author.Needs.{needs}
 use Rattle.quick_step.proofs.look.Statement.{statement}
 use Rattle.quick_step.proofs.look.Tie as tie
@@ -29,7 +29,7 @@ kind-above-requires : tie.Need-kind-above-requires
 kind-above-requires c κs = search needs
 
 returns-3 : tie.Need-returns-3
-returns-3 c = search by-kind depth 16
+returns-3 c = search no-such-kind depth 16
 
 returns-4 : tie.Need-returns-4
 returns-4 c = search by-flaw depth 16

@@ -1,5 +1,5 @@
 -- `quick_sweep::answer_to` meets its contract. Turned away, or worked. Assumes nothing.
-use Rattle.quick_sweep.proofs.Flags.{still-right}
+use Rattle.quick_sweep.proofs.Flags.{stay-right}
 use borrow.Author.Needs.{needs}
 use Rattle.quick_sweep.proofs.answer_to.Statement.{statement}
 use Rattle.quick_sweep.proofs.answer_to.Tie as tie
@@ -26,7 +26,7 @@ returns : tie.Need-returns
 returns c =
     let worked = c .before .before .before .before in
     let asked = worked .before .before .before .before .before .before in
-    (worked .step-on .ensures, still-right _ _ _ (asked .turned-away .ensures .1) (worked .step-on .ensures))
+    (worked .step-on .ensures, stay-right _ _ _ (asked .turned-away .ensures .1) (worked .step-on .ensures))
 
 same-length-4 : tie.Need-same-length-4
 same-length-4 c = search needs
