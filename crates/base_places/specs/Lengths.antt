@@ -1,7 +1,7 @@
--- Document 01, "Tables" and "Text form", as numbers: how much the text program holds, and how long a text and its output can be.
+-- Document 01, "Tables" and "Text form", as numbers: how much the text program holds, how long a line and an output can be, and how far a count goes.
 -- src/lib.rt says the same for code; every other file has these names, and no number of its own. Assumes nothing.
-use Prim.Native.Nat.{ℕ, _+_, _*_}
-use Rattle.base_places.specs.Places.{answerWidth, bodyWidth, headWidth, normalWidth, numbersWidth, stepWidth, tangentWidth}
+use Prim.Native.Nat.{ℕ, _+_, _*_, min}
+use Rattle.base_places.specs.Places.{answerWidth, bodyWidth}
 
 -- "The text program holds 64, 64 and 256"
 abbrev pub programBodies : ℕ
@@ -28,17 +28,6 @@ lineBytes numbers floats = 2 + numbers * numberBytes + floats * floatBytes
 abbrev pub mostInLine : ℕ
 mostInLine = 160
 
--- the longest good text, 33,152 bytes: as many B, contacts of C, N, T, N, T, and S as the program holds
-abbrev pub longestText : ℕ
-longestText =
-    programBodies * lineBytes 0 bodyWidth
-    + programContacts * (lineBytes numbersWidth headWidth + 2 * (lineBytes 0 normalWidth + lineBytes 0 tangentWidth))
-    + programSteps * lineBytes stepWidth 0
-
--- a line after it is bad, and its first 161 bytes say so: 33,313 decide
-abbrev pub deciding : ℕ
-deciding = longestText + mostInLine + 1
-
 -- no output is longer than 9,550 bytes: an A for each step, all B, an I for each point, E
 abbrev pub longestOutput : ℕ
 longestOutput =
@@ -47,13 +36,16 @@ longestOutput =
     + programContacts * 2 * lineBytes 2 2
     + lineBytes 2 0
 
--- the replay holds one byte of an input more, a D that is not yet known to be one: 33,314. It reads a file in portions, and tells at
--- most so much of each
-abbrev pub heldBytes : ℕ
-heldBytes = deciding + 1
-
+-- a program reads its input in portions; the replay tells at most so much of each
 abbrev pub portionBytes : ℕ
-portionBytes = 1024
+portionBytes = 4096
 
 abbrev pub toldBytes : ℕ
 toldBytes = 64 * portionBytes
+
+-- the largest number of a machine word, past which no count goes
+abbrev pub largest : ℕ
+largest = 18446744073709551615
+
+abbrev pub oneMore : ℕ → ℕ
+oneMore n = min (n + 1) largest

@@ -1,9 +1,10 @@
 // How wide the rows of the lent stretches are, where a point's loads stand among its floats, how much a call and the text
-// program take, and how long a text and its output can be. specs/Places.antt says the same for definitions; every other
+// program take, how long a line and an output can be, and how far a count goes. specs/Places.antt says the same for definitions; every other
 // file has these names, and no number of its own.
 ghost use mathlib.Core.Path.{_≡_};
 ghost use Rattle.base_places.specs.Places.{only};
 ghost use Rattle.base_places.specs.Places.{place as Places·place};
+ghost use Rattle.base_places.specs.Lengths.{oneMore};
 
 // A body: velocity x, y and angular w.
 pub const BODY_WIDTH: usize = 3;
@@ -89,14 +90,6 @@ pub const FLOAT_BYTES: usize = 1 + 8;
 
 pub const BODY_LINE: usize = 2 + BODY_WIDTH * FLOAT_BYTES;
 
-pub const CONTACT_LINE: usize = 2 + NUMBERS_WIDTH * NUMBER_BYTES + HEAD_WIDTH * FLOAT_BYTES;
-
-pub const NORMAL_LINE: usize = 2 + NORMAL_WIDTH * FLOAT_BYTES;
-
-pub const TANGENT_LINE: usize = 2 + TANGENT_WIDTH * FLOAT_BYTES;
-
-pub const STEP_LINE: usize = 2 + STEP_WIDTH * NUMBER_BYTES;
-
 pub const ANSWER_LINE: usize = 2 + ANSWER_WIDTH * NUMBER_BYTES;
 
 pub const LOAD_LINE: usize = 2 + 2 * NUMBER_BYTES + 2 * FLOAT_BYTES;
@@ -106,24 +99,23 @@ pub const END_LINE: usize = 2 + 2 * NUMBER_BYTES;
 // No good line is longer, without its byte 10.
 pub const MOST_IN_LINE: usize = 160;
 
-// The longest good text: as many bodies, contacts and steps as the program holds.
-pub const LONGEST_TEXT: usize = PROGRAM_BODIES * BODY_LINE
-    + PROGRAM_CONTACTS * (CONTACT_LINE + 2 * (NORMAL_LINE + TANGENT_LINE))
-    + PROGRAM_STEPS * STEP_LINE;
-
-// So many bytes of an input decide its output.
-pub const DECIDING: usize = LONGEST_TEXT + MOST_IN_LINE + 1;
-
 // No output is longer.
 pub const LONGEST_OUTPUT: usize = PROGRAM_STEPS * ANSWER_LINE
     + PROGRAM_BODIES * BODY_LINE
     + PROGRAM_CONTACTS * 2 * LOAD_LINE
     + END_LINE;
 
-// The replay holds one byte of an input more: a D that is not yet known to be one. It reads a file in portions, and tells
-// at most so much of each.
-pub const HELD: usize = DECIDING + 1;
-
-pub const PORTION: usize = 1024;
+// A program reads its input in portions. The replay tells at most so much of each.
+pub const PORTION: usize = 4096;
 
 pub const TOLD: usize = 64 * PORTION;
+
+// The largest number of a machine word.
+pub const LARGEST: usize = 18446744073709551615;
+
+// A count never goes past what a machine word holds.
+pub fn one_more(n: usize) -> usize
+    ensures { λ r. ⌜ r ≡ oneMore n ⌝ }
+{
+    if n < LARGEST { n + 1 } else { n }
+}

@@ -9,17 +9,16 @@ use mathlib.Core.Path.{_≡_, refl, sym, _∙_}
 use lib.Dec.{eqb, ltb}
 use lib.ListN.{drop, drop-of-length-le, getD, length, take}
 use lib.Seq.{drop-cons, length-take-le}
-use Rattle.base_places.specs.Lengths.{longestOutput}
+use Rattle.base_places.specs.Lengths.{longestOutput, oneMore}
 use Rattle.base_words.proofs.Pick.{never}
 use Rattle.replay_days.specs.Judged.{linesFrom, verdict}
 use Rattle.replay_days.specs.Going.{ending, meets, restOf}
-use Rattle.replay_compare.specs.Spots.{comparedTo, endNumber, metBy, nextOf, off, oneMore, shapeOf}
+use Rattle.replay_compare.specs.Spots.{comparedTo, endNumber, metBy, nextOf, off, shapeOf}
 use Rattle.replay_compare.specs.Meets.{Meets}
 use Rattle.replay_compare.specs.declared.LineSoFar.{LineSoFar}
 use Rattle.replay_compare.specs.declared.Meeting.{Meeting}
 use Rattle.replay_compare.specs.declared.Meeting.the-variants.{Line as NextLine, Other}
 use Rattle.replay_compare.specs.declared.Spot.{Spot}
-use Rattle.replay_compare.proofs.Cases.{goes-up}
 use Rattle.replay_compare.proofs.Apart.{
   ends-before,
   ends-with,
@@ -116,7 +115,7 @@ module _ (p : Spot) (buffer line : List ℕ) (left : List (List ℕ)) (n : ℕ) 
           start = r;
           on = λ on. r;
           off = λ off. never off;
-          number = rw (m .number) (sym (goes-up (omega (arith, few))));
+          number = omega (arith, few, m .number);
           few = omega (arith, few, l);
         };
       }

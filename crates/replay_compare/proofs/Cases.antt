@@ -1,5 +1,5 @@
 -- The steps' cases, as the program comes to them. Assumes nothing.
-use Prim.Native.Nat.{ℕ, zero, suc, _+_, _-_, _≤_, _<_}
+use Prim.Native.Nat.{ℕ, zero, suc, _+_, _≤_, _<_}
 use native.Mathlib.Omega.{arith}
 use borrow.Author.Tests.{eq-eqb, le-ltb, lt-ltb, ne-eqb}
 use mathlib.Core.Bool.{true, false}
@@ -11,20 +11,13 @@ use Rattle.text_digits.specs.Digits.{decBytes, decField}
 use Rattle.text_digits.specs.Wrote.{Wrote}
 use Rattle.text_digits.proofs.Then.{then}
 use Rattle.replay_days.specs.Judged.{dayLine, verdict}
-use Rattle.replay_compare.specs.Spots.{comparedTo, endNumber, metBy, nextOf, off, oneMore}
+use Rattle.replay_compare.specs.Spots.{comparedTo, endNumber, metBy, nextOf, off}
 use Rattle.replay_compare.specs.declared.LineSoFar.{LineSoFar}
 use Rattle.replay_compare.specs.declared.LineSoFar.the-variants.{Empty, More, One}
 use Rattle.replay_compare.specs.declared.Meeting.the-variants.{Line as NextLine, Other}
 use Rattle.replay_compare.specs.declared.Next.{Next}
 use Rattle.replay_compare.specs.declared.Next.the-variants.{Byte, End}
 use Rattle.replay_compare.specs.declared.Spot.{Spot}
-
-module _ {n : ℕ} where
-  pub goes-up : n < 18446744073709551615 → n + 1 ≡ oneMore n
-  goes-up h = rw (lt-ltb _ _ h)
-
-  pub stays : 18446744073709551615 ≤ n → n ≡ oneMore n
-  stays h = rw (le-ltb _ _ h)
 
 -- the first len bytes of a buffer
 module _ (o : List ℕ) (len : ℕ) {at : ℕ} where

@@ -30,13 +30,6 @@ holdsOnly Empty b = false
 holdsOnly (One c) b = eqb c b
 holdsOnly More b = false
 
--- the largest number of a machine word, which no count goes past
-abbrev pub largest : ℕ
-largest = 18446744073709551615
-
-abbrev pub oneMore : ℕ → ℕ
-oneMore n = if ltb n largest then n + 1 else n
-
 -- the byte of o at a place, and the place after it
 abbrev pub nextOf : List ℕ → ℕ → Next
 nextOf o at = if ltb at (length o) then Byte (getD o at 0) (at + 1) else End

@@ -7,7 +7,7 @@ ghost use lib.ListN.{take};
 ghost use Rattle.text_digits.specs.Digits.{decField};
 ghost use Rattle.text_digits.specs.Wrote.{Wrote};
 ghost use Rattle.replay_days.specs.Judged.{dayLine, verdict};
-ghost use Rattle.replay_compare.specs.Spots.{comparedTo, endNumber, holdsOnly, longerLine, metBy, nextOf, oneMore};
+ghost use Rattle.replay_compare.specs.Spots.{comparedTo, endNumber, holdsOnly, longerLine, metBy, nextOf};
 
 // What is known of the line so far.
 pub enum LineSoFar {
@@ -57,13 +57,6 @@ pub fn holds_only(line: LineSoFar, b: u8) -> bool
         LineSoFar::One(c) => c == b,
         LineSoFar::More => false,
     }
-}
-
-// A count never goes past what a machine word holds.
-pub fn one_more(n: usize) -> usize
-    ensures { λ r. ⌜ r ≡ oneMore n ⌝ }
-{
-    if n < 18446744073709551615 { n + 1 } else { n }
 }
 
 // The byte at a place of the output, which is the first len bytes of the buffer.

@@ -6,8 +6,8 @@ use Rattle.text_digits.specs.Digits.{decBytes, decDigits, decField, glyph}
 use Rattle.text_fields.specs.Fields.{fields, onto}
 use Rattle.text_fields.specs.Letters.{letterIn, letterOf, lineLetter}
 use Rattle.text_line.specs.Lines.{readLetter, readLine}
-use Rattle.text_line.specs.Night.{ofProgram}
-use Rattle.text_read.specs.Text.{closed, feed, feeds, lineEnded, refused, textOf}
+use Rattle.text_line.specs.Night.{blank, ofProgram}
+use Rattle.text_read.specs.Text.{closed, feed, feeds, lineEnded, refused, textOf, unread}
 use Rattle.text_write.specs.Lines.{joined, line}
 use Rattle.text_output.specs.Output.{output, outputOf}
 use Rattle.text_output.specs.Examples.{e-0-0, r-2, sampleOutput}
@@ -33,8 +33,8 @@ abbrev joint : List ℕ
 joint = e-0-0 ++ z ++ (65 ∷ 10 ∷ [])
 
 -- the line A is bad, with reason 2, and so is a line E
-read : (textOf ofProgram (65 ∷ 10 ∷ []) ≡ refused 1 2) × (textOf ofProgram joint ≡ refused 1 2)
-unfolding textOf closed feeds feed lineEnded readLine readLetter lineLetter letterIn letterOf fields onto
+read : (textOf ofProgram (65 ∷ 10 ∷ []) ≡ refused 1 2 blank) × (textOf ofProgram joint ≡ refused 1 2 blank)
+unfolding textOf unread closed feeds feed lineEnded readLine readLetter lineLetter letterIn letterOf fields onto
 read = (refl, refl)
 
 its-output : (output (65 ∷ 10 ∷ []) ≡ itsOutput) × (output joint ≡ itsOutput)

@@ -9,6 +9,7 @@ use lib.Dec.{eqb}
 use lib.ListN.{length, length-append}
 use Rattle.text_digits.specs.Digits.{decBytes, decField}
 use Rattle.text_digits.proofs.Lengths.{dec-field}
+use Rattle.text_read.specs.Portions.{whole}
 use Rattle.replay_days.specs.Judged.{dayLine, noD, onlyZ, verdict}
 use Rattle.replay_days.specs.Going.{
   Going,
@@ -30,7 +31,7 @@ use Rattle.replay_days.specs.Going.{
   start,
   tells,
 }
-use Rattle.replay_days.specs.Portions.{AnyPortions, DaysFew, FinishShort, TellsShort, inPortions, whole}
+use Rattle.replay_days.specs.Portions.{AnyPortions, DaysFew, FinishShort, TellsShort, inPortions}
 use Rattle.replay_days.proofs.Bytes.{byte-by-byte}
 
 pub feeds-append : (g : Going) (s t : List ℕ) → feeds g (s ++ t) ≡ feeds (feeds g s) t

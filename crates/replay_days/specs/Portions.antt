@@ -4,13 +4,9 @@ use Prim.Native.Nat.{ℕ, _+_, _*_, _≤_}
 use mathlib.Core.List.{List, [], _∷_, _++_}
 use mathlib.Core.Path.{_≡_}
 use lib.ListN.{length}
+use Rattle.text_read.specs.Portions.{whole}
 use Rattle.replay_days.specs.Judged.{judged}
 use Rattle.replay_days.specs.Going.{Going, feeds, finish, start, tells}
-
--- the portions one after the other
-unfoldable pub whole : List (List ℕ) → List ℕ
-whole [] = []
-whole (p ∷ portions) = p ++ whole portions
 
 unfoldable pub inPortions : Going → List (List ℕ) → List ℕ
 inPortions g [] = finish g

@@ -17,7 +17,7 @@ use Rattle.call_rules.specs.Demands.{Demand2}
 use Rattle.call.specs.declared.Report.{Report}
 use Rattle.text_digits.specs.Wrote.{Wrote}
 use Rattle.text_digits.proofs.Then.{then}
-use Rattle.text_line.specs.Filled.{nightOf}
+use Rattle.text_line.specs.Filled.{cells, nightOf}
 use Rattle.text_line.specs.Night.{Night}
 use Rattle.text_line.specs.declared.State.{State}
 use Rattle.text_write.specs.Lines.{eLine, rLine}
@@ -71,7 +71,7 @@ module _ (bodies numbers floats : List ℕ) (r : Report) (bodyValues contactValu
 
 -- the place in the order of lines does not matter
 pub of-state : (st : State) (bodies numbers floats steps : List ℕ)
-    → answer (nightOf st bodies numbers floats steps)
+    → answer (nightOf st (cells bodies numbers floats steps))
     ≡ answer (night (take (st .bodies) bodies) (take (st .numbers) numbers) (take (st .floats) floats) (take (st .steps) steps))
 unfolding answer written called lent nightOf
 of-state st bodies numbers floats steps = refl

@@ -23,9 +23,6 @@ module _ (base limit : ℕ) where
       let more : m * base ≤ m * base + digitOf b = le-add-right (m * base) (digitOf b) in
       rw (pow-succ', ← mul-assoc) (le-trans (mul-le-mul-right (base ^ length s) more) (grown (m * base + digitOf b) n s (d .rest)))
 
-pub hex-eight : (s : List ℕ) (n : ℕ) → hexOf s ≡ Is n → length s ≡ 8
-hex-eight s n e = came-hex s n e .0
-
 pub hex-small : (s : List ℕ) (n : ℕ) → hexOf s ≡ Is n → n ≤ 0xffff_ffff
 hex-small s n e = within 16 0xffff_ffff 0 n s (omega arith) (came-hex s n e .1)
 

@@ -1,4 +1,5 @@
 pub mod Until
+pub mod Runs
 pub mod Small
 pub mod Turn
 pub mod Rows

@@ -9,7 +9,7 @@ use lib.Dec.{ltb}
 use lib.ListN.{drop, getD, length, take}
 use lib.Seq.{length-take-le}
 use Rattle.base_words.specs.Choice.{if_then_else_}
-use Rattle.text_fields.specs.Fields.{Nothing, Says, ended, fields, fieldsFrom, takes, thenBits, untilTab, values}
+use Rattle.text_fields.specs.Fields.{Nothing, Says, ended, fields, fieldsFrom, takes, thenBits, until, values}
 use Rattle.text_fields.specs.Got.{Adds, ReadFields, ReadRow, gotFrom, rowSays}
 use Rattle.text_fields.specs.Letters.{afterLetter, asked, letterIn, letterOf, lineLetter, says}
 use Rattle.text_fields.specs.declared.Counts.{Counts}
@@ -20,11 +20,11 @@ use Rattle.text_fields.specs.declared.Letter.the-variants.{Other}
 use Rattle.text_fields.proofs.Until.{first, from-zero, past}
 
 -- the line's first field ends at `end`
-module _ (s : List ℕ) (end : ℕ) (at-end : end ≡ 0 + untilTab (drop 0 s)) where
+module _ (s : List ℕ) (end : ℕ) (at-end : end ≡ 0 + until 9 (drop 0 s)) where
   parted : fields s ≡ take end s ∷ fieldsFrom s (end + 1)
   parted =
-      let e : 0 + untilTab s ≡ end = omega arith in
-      let e′ : untilTab s ≡ end = omega arith in
+      let e : 0 + until 9 s ≡ end = omega arith in
+      let e′ : until 9 s ≡ end = omega arith in
       rw (e, e′) at (sym (from-zero s) ∙ first s 0 (omega arith))
 
   after : afterLetter (fields s) ≡ fieldsFrom s (end + 1)

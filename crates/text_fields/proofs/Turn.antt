@@ -12,7 +12,7 @@ use lib.Seq.{take-suc-set}
 use Rattle.base_places.specs.Places.{normalWidth}
 use Rattle.text_digits.specs.declared.Number.{Number}
 use Rattle.text_digits.specs.declared.Number.the-variants.{Is, No}
-use Rattle.text_fields.specs.Fields.{These, fieldsFrom, inForm, onward, takes, untilTab}
+use Rattle.text_fields.specs.Fields.{These, fieldsFrom, inForm, onward, takes, until}
 use Rattle.text_fields.specs.Got.{ReadField, ReadFields, Small, gotFrom, most}
 use Rattle.text_fields.specs.declared.Field.{Field}
 use Rattle.text_fields.specs.declared.Field.the-variants.{Holds, Bad}
@@ -33,7 +33,7 @@ module _ (form : Form) (s : List ℕ) (at : ℕ) where
     small = λ x next e. bad-holds x next e;
   }
 
-  module _ (h : at ≤ length s) (end : ℕ) (at-end : end ≡ at + untilTab (drop at s)) {v : Number}
+  module _ (h : at ≤ length s) (end : ℕ) (at-end : end ≡ at + until 9 (drop at s)) {v : Number}
       (said : v ≡ inForm form (take (end - at) (drop at s))) where
     split : fieldsFrom s at ≡ take (end - at) (drop at s) ∷ fieldsFrom s (end + 1)
     split = rw (at-end, add-sub-cancel-left) (first s at h)

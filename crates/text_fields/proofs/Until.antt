@@ -1,4 +1,4 @@
--- The search for a field's end, and what it says of the fields. Assumes nothing.
+-- The search for a byte, and what the search for a tab says of the fields. Assumes nothing.
 use Prim.Native.Nat.{ℕ, zero, suc, _+_, _≤_, _<_}
 use native.Mathlib.Nat.{le-of-suc-le-suc, not-suc-le-zero}
 use native.Mathlib.Numerals.{add-one}
@@ -10,41 +10,42 @@ use mathlib.Core.Path.{_≡_, refl}
 use lib.Dec.{eqb, leb·suc-suc, leb·zero}
 use lib.ListN.{drop, drop-of-length-le, getD, length, take}
 use lib.Seq.{drop-cons}
-use Rattle.text_fields.specs.Fields.{fields, fieldsFrom, onto, untilTab}
+use Rattle.text_fields.specs.Fields.{fields, fieldsFrom, onto, until}
 
-until-here : (s : List ℕ) {b : ℕ} → b ≡ 9 → untilTab (b ∷ s) ≡ 0
-unfolding untilTab
-until-here s h = rw (eq-eqb _ _ h)
+module _ {e : ℕ} where
+  pub until-here : (s : List ℕ) {b : ℕ} → b ≡ e → until e (b ∷ s) ≡ 0
+  unfolding until
+  until-here s h = rw (eq-eqb _ _ h)
 
-until-on : (s : List ℕ) {b : ℕ} → (b ≡ 9 → ⊥) → untilTab (b ∷ s) ≡ suc (untilTab s)
-unfolding untilTab
-until-on s h = rw (ne-eqb _ _ h)
+  pub until-on : (s : List ℕ) {b : ℕ} → (b ≡ e → ⊥) → until e (b ∷ s) ≡ suc (until e s)
+  unfolding until
+  until-on s h = rw (ne-eqb _ _ h)
 
-until-nil : untilTab [] ≡ 0
-unfolding untilTab
-until-nil = refl
+pub until-nil : (e : ℕ) → until e [] ≡ 0
+unfolding until
+until-nil e = refl
 
--- no tab stands from `at` to i
-pub record On (s : List ℕ) (at i : ℕ) : Type 0 where
-  pub same : i + untilTab (drop i s) ≡ at + untilTab (drop at s)
+-- no byte e stands from `at` to i
+pub record On (s : List ℕ) (at e i : ℕ) : Type 0 where
+  pub same : i + until e (drop i s) ≡ at + until e (drop at s)
 
-pub none-yet : (s : List ℕ) (at : ℕ) → On s at at
-none-yet s at = record { same = refl }
+pub none-yet : (s : List ℕ) (at e : ℕ) → On s at e at
+none-yet s at e = record { same = refl }
 
-module _ {s : List ℕ} {at i : ℕ} (v : On s at i) where
-  pub on : i < length s → (getD s i 0 ≡ 9 → ⊥) → On s at (i + 1)
+module _ {s : List ℕ} {at e i : ℕ} (v : On s at e i) where
+  pub on : i < length s → (getD s i 0 ≡ e → ⊥) → On s at e (i + 1)
   on h p =
-      let e = rw (drop-cons s i 0 h, until-on _ p, ← add-one i) at (v .same) in
+      let f = rw (drop-cons s i 0 h, until-on _ p, ← add-one i) at (v .same) in
       record { same = omega arith }
 
-  pub here : i < length s → getD s i 0 ≡ 9 → i ≡ at + untilTab (drop at s)
+  pub here : i < length s → getD s i 0 ≡ e → i ≡ at + until e (drop at s)
   here h p =
-      let e = rw (drop-cons s i 0 h, until-here _ p) at (v .same) in
+      let f = rw (drop-cons s i 0 h, until-here _ p) at (v .same) in
       omega arith
 
-  pub end : length s ≤ i → i ≡ at + untilTab (drop at s)
+  pub end : length s ≤ i → i ≡ at + until e (drop at s)
   end h =
-      let e = rw (drop-of-length-le s h, until-nil) at (v .same) in
+      let f = rw (drop-of-length-le s h, until-nil e) at (v .same) in
       omega arith
 
 from-cons : (b : ℕ) (s : List ℕ) (k : ℕ) → fieldsFrom (b ∷ s) (suc k) ≡ fieldsFrom s k
@@ -67,25 +68,25 @@ onto-cons : (b : ℕ) (f : List ℕ) (fs : List (List ℕ)) → onto b (f ∷ fs
 unfolding onto
 onto-cons b f fs = refl
 
-split-by : (b : ℕ) (s : List ℕ) (t : Bool) → eqb b 9 ≡ t → fields s ≡ take (untilTab s) s ∷ fieldsFrom s (suc (untilTab s))
-    → fields (b ∷ s) ≡ take (untilTab (b ∷ s)) (b ∷ s) ∷ fieldsFrom (b ∷ s) (suc (untilTab (b ∷ s)))
+split-by : (b : ℕ) (s : List ℕ) (t : Bool) → eqb b 9 ≡ t → fields s ≡ take (until 9 s) s ∷ fieldsFrom s (suc (until 9 s))
+    → fields (b ∷ s) ≡ take (until 9 (b ∷ s)) (b ∷ s) ∷ fieldsFrom (b ∷ s) (suc (until 9 (b ∷ s)))
 split-by b s true e h = rw (fields-tab s (eqb-true _ _ e), until-here s (eqb-true _ _ e), from-cons, from-zero)
 split-by b s false e h = rw (fields-on s (eqb-false _ _ e), until-on s (eqb-false _ _ e), from-cons, h, onto-cons)
 
-fields-split : (s : List ℕ) → fields s ≡ take (untilTab s) s ∷ fieldsFrom s (suc (untilTab s))
-unfolding fields untilTab fieldsFrom
+fields-split : (s : List ℕ) → fields s ≡ take (until 9 s) s ∷ fieldsFrom s (suc (until 9 s))
+unfolding fields until fieldsFrom
 fields-split [] = refl
 fields-split (b ∷ s) = split-by b s (eqb b 9) refl (fields-split s)
 
 -- the first of the fields from `at` on, and those after it
 pub first : (s : List ℕ) (at : ℕ) → at ≤ length s
-    → fieldsFrom s at ≡ take (untilTab (drop at s)) (drop at s) ∷ fieldsFrom s (at + untilTab (drop at s) + 1)
+    → fieldsFrom s at ≡ take (until 9 (drop at s)) (drop at s) ∷ fieldsFrom s (at + until 9 (drop at s) + 1)
 first s zero h =
-    let e : 0 + untilTab s + 1 ≡ suc (untilTab s) = omega arith in
+    let e : 0 + until 9 s + 1 ≡ suc (until 9 s) = omega arith in
     rw (e, from-zero, fields-split)
 first [] (suc k) h = absurd (not-suc-le-zero h)
 first (b ∷ s) (suc k) h =
-    let e : suc k + untilTab (drop k s) + 1 ≡ suc (k + untilTab (drop k s) + 1) = omega arith in
+    let e : suc k + until 9 (drop k s) + 1 ≡ suc (k + until 9 (drop k s) + 1) = omega arith in
     rw (e, from-cons, from-cons) (first s k (le-of-suc-le-suc h))
 
 pub past : (s : List ℕ) (at : ℕ) → length s < at → fieldsFrom s at ≡ []

@@ -1,6 +1,7 @@
 -- Document 01, "Text form": "fields parted by one tab", and what fields say as numbers. Assumes nothing.
 use Prim.Native.Nat.{ℕ, zero, suc}
 use mathlib.Core.List.{List, [], _∷_, _++_}
+use mathlib.Core.Path.{_≡_}
 use lib.Dec.{eqb, leb}
 use lib.ListN.{drop, length}
 use Rattle.base_words.specs.Choice.{if_then_else_}
@@ -20,10 +21,14 @@ unfoldable pub fields : List ℕ → List (List ℕ)
 fields [] = [] ∷ []
 fields (b ∷ s) = if eqb b 9 then [] ∷ fields s else onto b (fields s)
 
--- how many bytes stand before the first tab
-unfoldable pub untilTab : List ℕ → ℕ
-untilTab [] = 0
-untilTab (b ∷ s) = if eqb b 9 then 0 else suc (untilTab s)
+-- how many bytes stand before the first that is e; all of them, where none is
+unfoldable pub until : ℕ → List ℕ → ℕ
+until e [] = 0
+until e (b ∷ s) = if eqb b e then 0 else suc (until e s)
+
+-- no byte of a run is e
+abbrev pub Free : ℕ → List ℕ → Type 0
+Free e run = until e run ≡ length run
 
 -- the fields from byte `at` on; past the end there are none left
 unfoldable pub fieldsFrom : List ℕ → ℕ → List (List ℕ)

@@ -10,9 +10,12 @@ ghost use mathlib.Core.Path.{_≡_};
 ghost use Prim.Native.Nat.{_+_, _≤_};
 ghost use lib.ListN.{length, drop};
 ghost use Rattle.base_places.specs.Places.{normalWidth};
-ghost use Rattle.text_fields.specs.Fields.{inForm, untilTab};
+ghost use Rattle.text_fields.specs.Fields.{inForm, until};
 ghost use Rattle.text_fields.specs.Letters.{letterOf, lineLetter};
 ghost use Rattle.text_fields.specs.Got.{Adds, ReadField, ReadFields, ReadRow};
+
+// What parts two fields.
+const TAB: u8 = 9;
 
 pub enum Letter {
     Body,
@@ -71,14 +74,14 @@ fn letter_of(b: u8) -> Letter
     }
 }
 
-// The end of the field that starts at byte `at`.
-fn field_end(s: &[u8], at: usize) -> usize
+// The place from `at` on of the first byte `end`; the end of s, where there is none.
+pub fn run_end(s: &[u8], at: usize, end: u8) -> usize
     requires { ⌜ at ≤ length (now s) ⌝ }
-    ensures { λ r. ⌜ (r ≡ at + untilTab (drop at (now (s .entry)))) × (at ≤ r) × (r ≤ length (now (s .entry))) ⌝ }
+    ensures { λ r. ⌜ (r ≡ at + until end (drop at (now (s .entry)))) × (at ≤ r) × (r ≤ length (now (s .entry))) ⌝ }
 {
     let mut i = at;
     while i < s.len() {
-        if s[i] == 9 {
+        if s[i] == end {
             return i;
         }
         i += 1;
@@ -90,7 +93,7 @@ fn field_end(s: &[u8], at: usize) -> usize
 pub fn line_letter(line: &[u8]) -> Letter
     ensures { λ r. ⌜ r ≡ lineLetter (now (line .entry)) ⌝ }
 {
-    let end = field_end(line, 0);
+    let end = run_end(line, 0, TAB);
     if end == 1 {
         letter_of(line[0])
     } else {
@@ -138,7 +141,7 @@ fn read_field(form: Form, s: &[u8], at: usize) -> Field
     if s.len() < at {
         return Field::Bad;
     }
-    let end = field_end(s, at);
+    let end = run_end(s, at, TAB);
     let v = number(form, &s[at..end]);
     match v {
         Number::Is(x) => Field::Holds(x, end + 1),
@@ -183,7 +186,7 @@ pub fn read_row(l: Letter, line: &[u8]) -> Row
     ensures { λ r. ⌜ ReadRow l (now (line .entry)) r ⌝ }
 {
     let counts = adds(l);
-    let end = field_end(line, 0);
+    let end = run_end(line, 0, TAB);
     let first = read_fields(Form::Decimal, line, end + 1, counts.numbers + counts.steps);
     let second = read_fields(Form::Hex, line, first.next, counts.bodies + counts.floats);
     let numbers = first.values;

@@ -10,7 +10,7 @@ use Rattle.text_fields.specs.declared.Letter.{Letter}
 use Rattle.text_fields.specs.declared.Letter.the-variants.{Other}
 use Rattle.text_fields.specs.declared.Row.{Row}
 use Rattle.text_line.specs.Lines.{filled, is, nextPlace, ordered, readLetter, readLine}
-use Rattle.text_line.specs.Filled.{Full, Put, ReadLine, ReadOrdered, cameOf, nightOf}
+use Rattle.text_line.specs.Filled.{Cells, Full, Put, ReadLine, ReadOrdered, cameOf, nightOf}
 use Rattle.text_line.specs.declared.LineRead.{LineRead}
 use Rattle.text_line.specs.declared.LineRead.the-variants.{Good, Bad}
 use Rattle.text_line.specs.declared.Next.{Next}
@@ -18,42 +18,39 @@ use Rattle.text_line.specs.declared.Next.the-variants.{To, OutOfOrder}
 use Rattle.text_line.specs.declared.Place.{Place}
 use Rattle.text_line.specs.declared.State.{State}
 
-module _ (st : State) (line bodies numbers floats steps : List ℕ) (l : Letter) (letter : l ≡ lineLetter line) {u : Bool} (e : u ≡ is l Other) where
+module _ (st : State) (line : List ℕ) (w : Cells) (l : Letter) (letter : l ≡ lineLetter line) {u : Bool} (e : u ≡ is l Other) where
   -- 2
-  pub no-letter : u ≡ true → ReadLine st line bodies numbers floats steps (Bad 2) bodies numbers floats steps
+  pub no-letter : u ≡ true → ReadLine st line w (Bad 2) w
   unfolding readLine readLetter cameOf
-  no-letter h = record { is = rw (← letter, ← e, h) refl; sane = tt; kept = refl }
+  no-letter h = record { is = rw (← letter, ← e, h) refl; left = refl }
 
   -- 3
   module _ (known : u ≡ false) {next : Next} (leads : next ≡ nextPlace l (st .place)) where
-    pub no-order : next ≡ OutOfOrder → ReadLine st line bodies numbers floats steps (Bad 3) bodies numbers floats steps
+    pub no-order : next ≡ OutOfOrder → ReadLine st line w (Bad 3) w
     unfolding readLine readLetter ordered cameOf nightOf
-    no-order h = record { is = rw (← letter, ← e, known, ← leads, h) refl; sane = tt; kept = refl }
+    no-order h = record { is = rw (← letter, ← e, known, ← leads, h) refl; left = refl }
 
-    pub in-order : (place : Place) → next ≡ To place → {r : LineRead} {bodies′ numbers′ floats′ steps′ : List ℕ}
-        → ReadOrdered l place st line bodies numbers floats steps r bodies′ numbers′ floats′ steps′
-        → ReadLine st line bodies numbers floats steps r bodies′ numbers′ floats′ steps′
+    pub in-order : (place : Place) → next ≡ To place → {r : LineRead} {w′ : Cells}
+        → ReadOrdered l place st line w r w′ → ReadLine st line w r w′
     unfolding readLine readLetter ordered nightOf
-    in-order place h v = record { is = rw (← letter, ← e, known, ← leads, h) (v .is); sane = v .sane; kept = v .kept }
+    in-order place h v = record { is = rw (← letter, ← e, known, ← leads, h) (v .is); left = v .left }
 
-module _ (l : Letter) (place : Place) (st : State) (line bodies numbers floats steps : List ℕ) (row : Row) (told : ReadRow l line row) where
+module _ (l : Letter) (place : Place) (st : State) (line : List ℕ) (w : Cells) (row : Row) (told : ReadRow l line row) where
   -- 4
-  pub no-form : not (row .good) ≡ true → ReadOrdered l place st line bodies numbers floats steps (Bad 4) bodies numbers floats steps
+  pub no-form : not (row .good) ≡ true → ReadOrdered l place st line w (Bad 4) w
   unfolding cameOf filled rowSays
-  no-form h = record { is = rw (← told .is, not-so (row .good) h) refl; sane = tt; kept = refl }
+  no-form h = record { is = rw (← told .is, not-so (row .good) h) refl; left = refl }
 
   -- 5
-  module _ (formed : not (row .good) ≡ false) {x : Bool} (filling : Full l st bodies numbers floats steps x) where
-    pub no-room : x ≡ true → ReadOrdered l place st line bodies numbers floats steps (Bad 5) bodies numbers floats steps
+  module _ (formed : not (row .good) ≡ false) {x : Bool} (filling : Full l st w x) where
+    pub no-room : x ≡ true → ReadOrdered l place st line w (Bad 5) w
     unfolding cameOf filled rowSays
-    no-room h = record { is = rw (← told .is, so (row .good) formed, ← filling .is, h) refl; sane = tt; kept = refl }
+    no-room h = record { is = rw (← told .is, so (row .good) formed, ← filling .is, h) refl; left = refl }
 
-    pub stored : x ≡ false → (st′ : State) (bodies′ numbers′ floats′ steps′ : List ℕ)
-        → Put l place st (row .numbers) (row .bits) bodies numbers floats steps st′ bodies′ numbers′ floats′ steps′
-        → ReadOrdered l place st line bodies numbers floats steps (Good st′) bodies′ numbers′ floats′ steps′
+    pub stored : x ≡ false → (st′ : State) (w′ : Cells)
+        → Put l place st (row .numbers) (row .bits) w st′ w′ → ReadOrdered l place st line w (Good st′) w′
     unfolding cameOf filled rowSays
-    stored h st′ bodies′ numbers′ floats′ steps′ v = record {
+    stored h st′ w′ v = record {
       is = rw (← told .is, so (row .good) formed, ← filling .is, h, v .is) refl;
-      sane = v .sane;
-      kept = v .kept;
+      left = v .grown;
     }

@@ -16,7 +16,7 @@ use Rattle.text_fields.specs.declared.Letter.{Letter}
 use Rattle.text_fields.specs.declared.Letter.the-variants.{Body, Contact, Normal, Tangent, Step, Other}
 use Rattle.text_line.specs.Night.{Night}
 use Rattle.text_line.specs.Lines.{asksFloats, full, lacks}
-use Rattle.text_line.specs.Filled.{Full, HasRoom, Sane, nightOf, roomOf}
+use Rattle.text_line.specs.Filled.{Cells, Full, HasRoom, Sane, nightOf, roomOf}
 use Rattle.text_line.specs.declared.State.{State}
 
 left-by : (size used more : ℕ) (t : Bool) → ltb (size - used) more ≡ t → used ≤ size → t ≡ ltb size (used + more)
@@ -59,37 +59,36 @@ no-less Tangent = lit≤ tt
 no-less Step = lit≤ tt
 no-less Other = lit≤ tt
 
-module _ (l : Letter) (st : State) (bodies numbers floats steps : List ℕ) (sane : Sane st bodies numbers floats steps) where
+module _ (l : Letter) (st : State) (w : Cells) (sane : Sane st w) where
   -- the four tests
-  as-tests : full (roomOf bodies numbers floats steps) l (nightOf st bodies numbers floats steps)
-      ≡ (ltb (length bodies) (st .bodies + adds l .bodies) || ltb (length numbers) (st .numbers + adds l .numbers)
-      || ltb (length floats) (st .floats + asksFloats l) || ltb (length steps) (st .steps + adds l .steps))
+  as-tests : full (roomOf w) l (nightOf st w)
+      ≡ (ltb (length (w .bodies)) (st .bodies + adds l .bodies) || ltb (length (w .numbers)) (st .numbers + adds l .numbers)
+      || ltb (length (w .floats)) (st .floats + asksFloats l) || ltb (length (w .steps)) (st .steps + adds l .steps))
   unfolding full roomOf nightOf
   as-tests =
       rw (
-        as-filled bodies (st .bodies) (adds l .bodies) (sane .bodies-fit),
-        as-filled numbers (st .numbers) (adds l .numbers) (sane .numbers-fit),
-        as-filled floats (st .floats) (asksFloats l) (sane .floats-fit),
-        as-filled steps (st .steps) (adds l .steps) (sane .steps-fit),
+        as-filled (w .bodies) (st .bodies) (adds l .bodies) (sane .bodies-fit),
+        as-filled (w .numbers) (st .numbers) (adds l .numbers) (sane .numbers-fit),
+        as-filled (w .floats) (st .floats) (asksFloats l) (sane .floats-fit),
+        as-filled (w .steps) (st .steps) (adds l .steps) (sane .steps-fit),
       )
 
   -- where none of them holds there is room
-  fitting : full (roomOf bodies numbers floats steps) l (nightOf st bodies numbers floats steps) ≡ false
-      → HasRoom l st bodies numbers floats steps
+  fitting : full (roomOf w) l (nightOf st w) ≡ false → HasRoom l st w
   unfolding roomOf nightOf HasRoom
   fitting h =
-      let r = roomy (roomOf bodies numbers floats steps) l (nightOf st bodies numbers floats steps) h in (
-        fits bodies (st .bodies) (adds l .bodies) (sane .bodies-fit) (r .0),
-        fits numbers (st .numbers) (adds l .numbers) (sane .numbers-fit) (r .1),
-        omega (arith, no-less l, fits floats (st .floats) (asksFloats l) (sane .floats-fit) (r .2)),
-        fits steps (st .steps) (adds l .steps) (sane .steps-fit) (r .3),
+      let r = roomy (roomOf w) l (nightOf st w) h in (
+        fits (w .bodies) (st .bodies) (adds l .bodies) (sane .bodies-fit) (r .0),
+        fits (w .numbers) (st .numbers) (adds l .numbers) (sane .numbers-fit) (r .1),
+        omega (arith, no-less l, fits (w .floats) (st .floats) (asksFloats l) (sane .floats-fit) (r .2)),
+        fits (w .steps) (st .steps) (adds l .steps) (sane .steps-fit) (r .3),
       )
 
-  pub tested : {cells : Counts} {b n f s : Bool} {whole : ℕ} → Adds l cells → whole ≡ asksFloats l
-      → b ≡ ltb (length bodies) (st .bodies + cells .bodies) → n ≡ ltb (length numbers) (st .numbers + cells .numbers)
-      → f ≡ ltb (length floats) (st .floats + whole) → s ≡ ltb (length steps) (st .steps + cells .steps)
-      → Full l st bodies numbers floats steps (b || n || f || s)
-  tested {cells} {b} {n} {f} {s} a e p q r t =
-      let same : (b || n || f || s) ≡ full (roomOf bodies numbers floats steps) l (nightOf st bodies numbers floats steps) =
+  pub tested : {counts : Counts} {b n f s : Bool} {whole : ℕ} → Adds l counts → whole ≡ asksFloats l
+      → b ≡ ltb (length (w .bodies)) (st .bodies + counts .bodies) → n ≡ ltb (length (w .numbers)) (st .numbers + counts .numbers)
+      → f ≡ ltb (length (w .floats)) (st .floats + whole) → s ≡ ltb (length (w .steps)) (st .steps + counts .steps)
+      → Full l st w (b || n || f || s)
+  tested {counts} {b} {n} {f} {s} a e p q r t =
+      let same : (b || n || f || s) ≡ full (roomOf w) l (nightOf st w) =
       rw (p, q, r, t, e, a .bodies, a .numbers, a .steps) (sym as-tests) in
       record { is = same; room = λ h. fitting (sym same ∙ h) }

@@ -4,9 +4,9 @@ use native.Mathlib.Nat.{add-zero, sub-zero}
 use native.Mathlib.Numerals.{add-one}
 use native.Mathlib.Omega.{arith}
 use mathlib.Core.List.{List, _++_}
-use mathlib.Core.Path.{_≡_, refl}
+use mathlib.Core.Path.{_≡_, refl, ap, _∙_}
 use lib.ListN.{drop, getD, length, length-append, length-set, set, take}
-use lib.Seq.{drop-cons, length-take-le, sets, sets-eq, take-at, take-take}
+use lib.Seq.{drop-at, drop-cons, length-take-le, sets, sets-eq, take-at, take-take}
 use Rattle.text_fields.specs.Got.{Adds, Small, most}
 use Rattle.text_fields.specs.Letters.{adds, asked}
 use Rattle.text_fields.specs.declared.Counts.{Counts}
@@ -14,7 +14,7 @@ use Rattle.text_fields.specs.declared.Form.the-variants.{Decimal, Hex}
 use Rattle.text_fields.specs.declared.Letter.{Letter}
 use Rattle.text_fields.proofs.Small.{small-at}
 use Rattle.text_line.specs.Lines.{put}
-use Rattle.text_line.specs.Filled.{Appended, Put, nightOf, roomOf}
+use Rattle.text_line.specs.Filled.{Appended, Put, cells, nightOf}
 use Rattle.text_line.specs.declared.Place.{Place}
 use Rattle.text_line.specs.declared.State.{State}
 
@@ -47,12 +47,17 @@ module _ {t₀ t : List ℕ} {at i k : ℕ} {row : List ℕ} (v : Left t₀ t at
       let e : length (take k row) ≡ k = length-take-le k row (v .wide) in
       let g : length (take at t₀) ≡ at = length-take-le at t₀ (omega arith) in
       let rest = drop (at + length (take k row)) t₀ in
+      let front : length (take at t₀ ++ take k row) ≡ at + k = rw (length-append, e, g) in
       record {
-        is =
-            rw (all, sets-eq (take k row) t₀ at (rw e room))
-            (take-at (take at t₀ ++ take k row) rest (at + k) (rw (length-append, e, g)));
-        fits = omega (arith, v .long);
-        long = v .long;
+        is = rw (all, sets-eq (take k row) t₀ at (rw e room)) (take-at (take at t₀ ++ take k row) rest (at + k) front);
+        grown = record {
+          more = omega arith;
+          fits = omega (arith, v .long);
+          past =
+              rw (all, sets-eq (take k row) t₀ at (rw e room))
+              (drop-at (take at t₀ ++ take k row) rest (at + k) front ∙ ap (λ n. drop (at + n) t₀) e);
+          long = v .long;
+        };
       }
 
 -- a decimal number fits in 16 bits
@@ -61,12 +66,12 @@ sixteen row i h = omega (arith, small-at 65535 row i h)
 
 -- a line's numbers at the ends of all tables
 pub put-all : (l : Letter) (place : Place) (st : State) (said bits bodies numbers floats steps : List ℕ)
-    {b n f s : ℕ} {bodies′ numbers′ floats′ steps′ : List ℕ} {cells : Counts} → Adds l cells
-    → Appended bodies (st .bodies) bits (cells .bodies) bodies′ b → Appended numbers (st .numbers) said (cells .numbers) numbers′ n
-    → Appended floats (st .floats) bits (cells .floats) floats′ f → Appended steps (st .steps) said (cells .steps) steps′ s
-    → Put l place st said bits bodies numbers floats steps
-    (record { place = place; bodies = b; numbers = n; floats = f; steps = s }) bodies′ numbers′ floats′ steps′
-unfolding nightOf put roomOf
+    {b n f s : ℕ} {bodies′ numbers′ floats′ steps′ : List ℕ} {counts : Counts} → Adds l counts
+    → Appended bodies (st .bodies) bits (counts .bodies) bodies′ b → Appended numbers (st .numbers) said (counts .numbers) numbers′ n
+    → Appended floats (st .floats) bits (counts .floats) floats′ f → Appended steps (st .steps) said (counts .steps) steps′ s
+    → Put l place st said bits (cells bodies numbers floats steps)
+    (record { place = place; bodies = b; numbers = n; floats = f; steps = s }) (cells bodies′ numbers′ floats′ steps′)
+unfolding nightOf put
 put-all l place st said bits bodies numbers floats steps a p q r t =
     record {
       is =
@@ -84,6 +89,5 @@ put-all l place st said bits bodies numbers floats steps a p q r t =
             r .is,
             t .is,
           );
-      sane = record { bodies-fit = p .fits; numbers-fit = q .fits; floats-fit = r .fits; steps-fit = t .fits };
-      kept = rw (p .long, q .long, r .long, t .long);
+      grown = record { bodies = p .grown; numbers = q .grown; floats = r .grown; steps = t .grown };
     }

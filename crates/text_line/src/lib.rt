@@ -20,7 +20,7 @@ ghost use Rattle.text_fields.specs.declared.Form.the-variants.{Decimal};
 ghost use Rattle.text_line.specs.Lines.{asksFloats, inContact, nextPlace, number};
 ghost use Rattle.text_line.specs.Lines.{is as Lines·is};
 ghost use Rattle.text_line.specs.Lines.{on as Lines·on};
-ghost use Rattle.text_line.specs.Filled.{Appended, Full, HasRoom, Put, ReadLine, ReadOrdered, Sane};
+ghost use Rattle.text_line.specs.Filled.{Appended, Full, HasRoom, Put, ReadLine, ReadOrdered, Sane, cells};
 
 // The place in the order of lines: among the bodies; in a contact, before its N, T, N or T; after a contact; among the
 // steps.
@@ -146,8 +146,8 @@ fn is_full(
     floats: &[u32],
     steps: &[u16],
 ) -> bool
-    requires { ⌜ Sane st (now bodies) (now numbers) (now floats) (now steps) ⌝ }
-    ensures { λ r. ⌜ Full l st (now (bodies .entry)) (now (numbers .entry)) (now (floats .entry)) (now (steps .entry)) r ⌝ }
+    requires { ⌜ Sane st (cells (now bodies) (now numbers) (now floats) (now steps)) ⌝ }
+    ensures { λ r. ⌜ Full l st (cells (now (bodies .entry)) (now (numbers .entry)) (now (floats .entry)) (now (steps .entry))) r ⌝ }
 {
     let counts = text_fields::adds(l);
     let no_bodies = lacks(bodies.len(), st.bodies, counts.bodies);
@@ -193,10 +193,10 @@ fn put_row(
     floats: &mut [u32],
     steps: &mut [u16],
 ) -> State
-    requires { ⌜ HasRoom l st (now bodies) (now numbers) (now floats) (now steps) × Small (most Decimal) (row .numbers) ⌝ }
+    requires { ⌜ HasRoom l st (cells (now bodies) (now numbers) (now floats) (now steps)) × Small (most Decimal) (row .numbers) ⌝ }
     ensures { λ r. ⌜ Put l place st (row .numbers) (row .bits)
-        (now (bodies .entry)) (now (numbers .entry)) (now (floats .entry)) (now (steps .entry)) r
-        (now (bodies .exit)) (now (numbers .exit)) (now (floats .exit)) (now (steps .exit)) ⌝ }
+        (cells (now (bodies .entry)) (now (numbers .entry)) (now (floats .entry)) (now (steps .entry))) r
+        (cells (now (bodies .exit)) (now (numbers .exit)) (now (floats .exit)) (now (steps .exit))) ⌝ }
 {
     let counts = text_fields::adds(l);
     let said = row.numbers;
@@ -221,10 +221,10 @@ fn read_ordered(
     floats: &mut [u32],
     steps: &mut [u16],
 ) -> LineRead
-    requires { ⌜ Sane st (now bodies) (now numbers) (now floats) (now steps) ⌝ }
+    requires { ⌜ Sane st (cells (now bodies) (now numbers) (now floats) (now steps)) ⌝ }
     ensures { λ r. ⌜ ReadOrdered l place st (now (line .entry))
-        (now (bodies .entry)) (now (numbers .entry)) (now (floats .entry)) (now (steps .entry)) r
-        (now (bodies .exit)) (now (numbers .exit)) (now (floats .exit)) (now (steps .exit)) ⌝ }
+        (cells (now (bodies .entry)) (now (numbers .entry)) (now (floats .entry)) (now (steps .entry))) r
+        (cells (now (bodies .exit)) (now (numbers .exit)) (now (floats .exit)) (now (steps .exit))) ⌝ }
 {
     let row = text_fields::read_row(l, line);
     if !row.good {
@@ -246,10 +246,10 @@ pub fn read_line(
     floats: &mut [u32],
     steps: &mut [u16],
 ) -> LineRead
-    requires { ⌜ Sane st (now bodies) (now numbers) (now floats) (now steps) ⌝ }
+    requires { ⌜ Sane st (cells (now bodies) (now numbers) (now floats) (now steps)) ⌝ }
     ensures { λ r. ⌜ ReadLine st (now (line .entry))
-        (now (bodies .entry)) (now (numbers .entry)) (now (floats .entry)) (now (steps .entry)) r
-        (now (bodies .exit)) (now (numbers .exit)) (now (floats .exit)) (now (steps .exit)) ⌝ }
+        (cells (now (bodies .entry)) (now (numbers .entry)) (now (floats .entry)) (now (steps .entry))) r
+        (cells (now (bodies .exit)) (now (numbers .exit)) (now (floats .exit)) (now (steps .exit))) ⌝ }
 {
     let l = text_fields::line_letter(line);
     if is(l, Letter::Other) {

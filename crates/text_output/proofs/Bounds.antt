@@ -1,11 +1,11 @@
--- How long an output can be, and how much of an input decides it. Assumes nothing.
+-- How long an output can be. Assumes nothing.
 use Prim.Native.Nat.{ℕ, _*_, _≤_, _<_, min}
 use native.Mathlib.Decide.{decLt}
 use native.Mathlib.Omega.{arith}
 use borrow.Author.Tests.{eqb-true}
 use mathlib.Core.Bool.{Bool, true, false}
 use mathlib.Core.List.{List, [], _∷_, _++_}
-use mathlib.Core.Path.{_≡_, refl, ap}
+use mathlib.Core.Path.{_≡_, refl}
 use lib.Dec.{eqb}
 use lib.Ieee.{Float}
 use lib.ListN.{getD, length, length-append, length-take, List·getD-eq-default, take}
@@ -19,14 +19,14 @@ use Rattle.call_rules.specs.Few.{FewTold}
 use Rattle.call_rules.proofs.Demands.{demand1, few-told}
 use Rattle.text_line.specs.Night.{Night, ofProgram}
 use Rattle.text_read.specs.Text.{Text, reading, refused, textOf}
-use Rattle.text_prefix.specs.Prefix.{WholeRows}
-use Rattle.text_prefix.proofs.Prefix.{prefix-decides, tables-hold}
+use Rattle.text_held.specs.Held.{WholeRows}
+use Rattle.text_held.proofs.Held.{tables-hold}
 use Rattle.text_write.specs.Lines.{eLine, rLine}
 use Rattle.text_rows.specs.Tables.{listing}
 use Rattle.text_rows.specs.declared.Listed.the-variants.{Answers, Bodies, Loads}
 use Rattle.text_write.proofs.Lengths.{Small, e-line-length, r-line-length, x-line-length}
 use Rattle.text_rows.proofs.Lengths.{answers-length, bodies-length, loads-length}
-use Rattle.text_output.specs.Bounds.{OutputFits, PrefixDecidesOutput}
+use Rattle.text_output.specs.Bounds.{OutputFits}
 use Rattle.text_output.specs.Answer.{answer, called, lent, lines, prints, written}
 use Rattle.text_output.specs.Output.{output, outputOf}
 
@@ -95,12 +95,8 @@ answer-fits t h = written-fits t h (eqb (called t .refusal) 0) refl
 fits-by : (input : List ℕ) (x : Text) → textOf ofProgram input ≡ x → length (outputOf x) ≤ longestOutput
 unfolding outputOf
 fits-by input (reading line n t) e = answer-fits t (tables-hold input line n t e)
-fits-by input (refused number reason) e = omega (arith, x-line-length number reason)
+fits-by input (refused number reason t) e = omega (arith, x-line-length number reason)
 
 pub output-fits : OutputFits
 unfolding output
 output-fits input = fits-by input (textOf ofProgram input) refl
-
-pub prefix-decides-output : PrefixDecidesOutput
-unfolding output
-prefix-decides-output input = ap outputOf (prefix-decides input)

@@ -27,7 +27,7 @@ use Rattle.text_fields.specs.Letters.{afterLetter, letterIn, letterOf, lineLett
 use Rattle.text_line.specs.Night.{Night, blank, ofProgram}
 use Rattle.text_line.specs.declared.Place.the-variants.{Steps}
 use Rattle.text_line.specs.Lines.{filled, full, lacks, ordered, put, readLetter, readLine}
-use Rattle.text_read.specs.Text.{closed, feed, feeds, lineEnded, reading, textOf, wholeContacts}
+use Rattle.text_read.specs.Text.{closed, feed, feeds, lineEnded, reading, textOf, unread, wholeContacts}
 use Rattle.text_write.specs.Lines.{each, joined, line}
 use Rattle.text_rows.specs.Tables.{aLine, bLine, iLine, listing, pointLine, pointsOf}
 use Rattle.text_output.specs.Answer.{answer, called, floatsOf, lent, lines, prints, written, zeros}
@@ -54,7 +54,7 @@ abbrev alone : Night
 alone = record { place = Steps; bodies = []; numbers = []; floats = []; steps = 0 ∷ 0 ∷ [] }
 
 read : (textOf ofProgram sampleNight ≡ reading [] 8 night) × (textOf ofProgram [] ≡ reading [] 1 blank) × (textOf ofProgram stepAlone ≡ reading [] 2 alone)
-unfolding textOf closed feeds feed lineEnded wholeContacts blank ofProgram readLine readLetter ordered filled full lacks put lineLetter letterIn letterOf fields onto
+unfolding textOf unread closed feeds feed lineEnded wholeContacts blank ofProgram readLine readLetter ordered filled full lacks put lineLetter letterIn letterOf fields onto
     says afterLetter values thenBits takes onward ended decOf hexOf numberFrom digitOf
 read = (refl, refl, refl)
 

@@ -15,8 +15,8 @@ use Rattle.list_checks.specs.Checks.{someUneven, tooMany, wholeCall, wrongSizes
 use Rattle.call_rules.proofs.Demands.{how, is-number}
 use Rattle.text_digits.specs.Bits.{valueOf}
 use Rattle.text_line.specs.Night.{Night}
-use Rattle.text_prefix.specs.Prefix.{WholeRows}
-use Rattle.text_prefix.proofs.Prefix.{tables-hold}
+use Rattle.text_held.specs.Held.{WholeRows}
+use Rattle.text_held.proofs.Held.{tables-hold}
 use Rattle.text_output.specs.Answer.{called, floatsOf, lent, zeros}
 use Rattle.text_output.specs.Refusals.{OnlyTwoOrThree}
 

@@ -9,7 +9,7 @@ use Rattle.text_output.specs.Answer.{answer}
 -- "Bad text writes only X"
 unfoldable pub outputOf : Text → List ℕ
 outputOf (reading line n t) = answer t
-outputOf (refused number reason) = xLine number reason
+outputOf (refused number reason t) = xLine number reason
 
 unfoldable pub output : List ℕ → List ℕ
 output input = outputOf (textOf ofProgram input)

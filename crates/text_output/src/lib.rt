@@ -1,2 +1,2 @@
-// No code: what is written of a night that was read and of any input, byte by byte, as definitions; how long it can be and
-// how much of an input decides it, as statements. The programs that write it stand above.
+// No code: what is written of a night that was read and of any input, byte by byte, as definitions; how long it can be, as
+// a statement. The programs that write it stand above.

@@ -1,14 +1,20 @@
 -- What the text program leaves in its buffer. Assumes nothing.
-use Prim.Native.Nat.{ℕ, _*_, _≤_, _<_}
-use mathlib.Core.List.{List, [], _++_}
+use Prim.Native.Nat.{ℕ, _*_, _≤_}
+use mathlib.Core.List.{List, []}
 use mathlib.Core.Path.{_≡_}
 use lib.ListN.{length, take}
 use lib.Seq.{sets}
 use Rattle.base_places.specs.Places.{bodyWidth, floatsWidth}
-use Rattle.base_places.specs.Lengths.{deciding, longestOutput, programBodies, programContacts}
-use Rattle.text_line.specs.Filled.{Sane}
+use Rattle.base_places.specs.Lengths.{longestOutput, programBodies, programContacts}
+use Rattle.text_digits.specs.Wrote.{Wrote}
+use Rattle.text_line.specs.Night.{ofProgram}
+use Rattle.text_line.specs.Filled.{Cells, Sane}
 use Rattle.text_line.specs.declared.State.{State}
-use Rattle.text_output.specs.Output.{output}
+use Rattle.text_read.specs.Text.{textOf}
+use Rattle.text_read.specs.Portions.{over}
+use Rattle.text_read.specs.Carried.{cappedIn, readingIn, textIn}
+use Rattle.text_read.specs.declared.Reader.{Reader}
+use Rattle.text_output.specs.Output.{output, outputOf}
 
 -- the buffer o became o′, and `number` bytes of it are told
 pub record Answered (input o o′ : List ℕ) (number : ℕ) : Type 0 where
@@ -19,15 +25,17 @@ pub record Answered (input o o′ : List ℕ) (number : ℕ) : Type 0 where
   -- so what is told is the output
   pub told : take number o′ ≡ output input
 
--- n bytes of an input were read to the front of a buffer that holds 33,313
-pub record AnsweredFront (buffer : List ℕ) (n : ℕ) (o o′ : List ℕ) (number : ℕ) : Type 0 where
-  -- where nothing came after them unless they filled it, what is told is the output of the whole input, however long that is
-  pub whole : (rest : List ℕ) → (n < deciding → rest ≡ []) → Answered (take n buffer ++ rest) o o′ number
-  -- and no more is told than there is
+-- the same of what a reader carries
+pub record AnsweredRead (k : Reader) (w : Cells) (o o′ : List ℕ) (number : ℕ) : Type 0 where
+  -- whatever that is
+  pub wrote : Wrote o 0 (outputOf (textIn k [] w)) o′ number
+  -- and where it is what a whole input came to, its output is told
+  pub whole : (input line : List ℕ) → readingIn k line w ≡ cappedIn (over (textOf ofProgram input)) → Answered input o o′ number
+  -- no more is told than there is
   pub fits : number ≤ longestOutput
 
 -- tables as long as the program's, filled as far as a state says
-pub record InTables (st : State) (bodies numbers floats steps : List ℕ) : Type 0 where
-  pub sane : Sane st bodies numbers floats steps
-  pub as-bodies : length bodies ≡ programBodies * bodyWidth
-  pub as-floats : length floats ≡ programContacts * floatsWidth
+pub record InTables (st : State) (w : Cells) : Type 0 where
+  pub sane : Sane st w
+  pub as-bodies : length (w .bodies) ≡ programBodies * bodyWidth
+  pub as-floats : length (w .floats) ≡ programContacts * floatsWidth

@@ -1,7 +1,7 @@
-// The text program: from the input's bytes to the output's, by tables that start with every row zero.
+// The text program: from what a reader carries to the output's bytes, and from a whole text's bytes, by tables that start with
+// every row zero.
 use base_places::ANSWER_WIDTH;
 use base_places::BODY_WIDTH;
-use base_places::DECIDING;
 use base_places::FLOATS_WIDTH;
 use base_places::LONGEST_OUTPUT;
 use base_places::NUMBERS_WIDTH;
@@ -11,15 +11,16 @@ use base_places::PROGRAM_STEPS;
 use base_places::STEP_WIDTH;
 use text_answer::answer_night;
 use text_line::State;
-use text_read::End;
+use text_read::Came;
+use text_read::Reader;
 use text_read::read_text;
+use text_read::within;
 ghost use mathlib.Core.Path.{_≡_};
 ghost use lib.ListN.{take};
-ghost use Rattle.text_line.specs.Filled.{nightOf};
+ghost use Rattle.text_line.specs.Filled.{cells, nightOf};
 ghost use Rattle.text_digits.specs.Wrote.{Wrote};
 ghost use Rattle.text_output.specs.Answer.{answer};
-ghost use Rattle.text_output.specs.Output.{output};
-ghost use Rattle.text_program.specs.Answered.{Answered, AnsweredFront, InTables};
+ghost use Rattle.text_program.specs.Answered.{Answered, AnsweredRead, InTables};
 
 // The answer to a night, from the program's tables, filled as far as the state says.
 fn answer_state(
@@ -30,9 +31,9 @@ fn answer_state(
     steps: &[u16],
     out: &mut [u8],
 ) -> usize
-    requires { ⌜ InTables st (now bodies) (now numbers) (now floats) (now steps) ⌝ }
+    requires { ⌜ InTables st (cells (now bodies) (now numbers) (now floats) (now steps)) ⌝ }
     ensures { λ r. ⌜ Wrote (now (out .entry)) 0
-        (answer (nightOf st (now (bodies .entry)) (now (numbers .entry)) (now (floats .entry)) (now (steps .entry))))
+        (answer (nightOf st (cells (now (bodies .entry)) (now (numbers .entry)) (now (floats .entry)) (now (steps .entry)))))
         (now (out .exit)) r ⌝ }
 {
     let body_cells = st.bodies;
@@ -54,26 +55,38 @@ fn answer_state(
     )
 }
 
-// As much of the output as the buffer has room for.
-fn write_output(input: &[u8], out: &mut [u8]) -> usize
-    ensures { λ r. ⌜ Wrote (now (out .entry)) 0 (output (now (input .entry))) (now (out .exit)) r ⌝ }
+// What is written of what a reader carries: the answer to what was read, or the bad line.
+pub fn answer_read(
+    k: Reader,
+    bodies: &mut [u32; PROGRAM_BODIES * BODY_WIDTH],
+    numbers: &[u16; PROGRAM_CONTACTS * NUMBERS_WIDTH],
+    floats: &mut [u32; PROGRAM_CONTACTS * FLOATS_WIDTH],
+    steps: &[u16; PROGRAM_STEPS * STEP_WIDTH],
+    out: &mut [u8; LONGEST_OUTPUT],
+) -> usize
+    ensures { λ r. ⌜ AnsweredRead k (cells (now (bodies .entry)) (now (numbers .entry)) (now (floats .entry)) (now (steps .entry)))
+        (now (out .entry)) (now (out .exit)) r ⌝ }
+{
+    let came = k.came;
+    match came {
+        Came::Fine => {
+            let st = within(k.st, &*bodies, numbers, &*floats, steps);
+            answer_state(st, bodies, numbers, floats, steps, out)
+        }
+        Came::Bad(reason) => text_write::x_line(out, 0, k.number, reason as usize),
+    }
+}
+
+// The output of a whole text: the buffer has room for any.
+pub fn answer_text(input: &[u8], out: &mut [u8; LONGEST_OUTPUT]) -> usize
+    ensures { λ r. ⌜ Answered (now (input .entry)) (now (out .entry)) (now (out .exit)) r ⌝ }
 {
     let mut bodies = [0u32; PROGRAM_BODIES * BODY_WIDTH];
     let mut numbers = [0u16; PROGRAM_CONTACTS * NUMBERS_WIDTH];
     let mut floats = [0u32; PROGRAM_CONTACTS * FLOATS_WIDTH];
     let mut steps = [0u16; PROGRAM_STEPS * STEP_WIDTH];
-    let end = read_text(input, &mut bodies, &mut numbers, &mut floats, &mut steps);
-    match end {
-        End::Whole(st, _) => answer_state(st, &mut bodies, &numbers, &mut floats, &steps, out),
-        End::Bad(number, reason) => text_write::x_line(out, 0, number, reason as usize),
-    }
-}
-
-// The output, whole: the buffer has room for any.
-pub fn answer_text(input: &[u8], out: &mut [u8; LONGEST_OUTPUT]) -> usize
-    ensures { λ r. ⌜ Answered (now (input .entry)) (now (out .entry)) (now (out .exit)) r ⌝ }
-{
-    write_output(input, out)
+    let k = read_text(input, &mut bodies, &mut numbers, &mut floats, &mut steps);
+    answer_read(k, &mut bodies, &numbers, &mut floats, &steps, out)
 }
 
 // The first n bytes; all of them where n is past the end.
@@ -81,11 +94,4 @@ pub fn front(bytes: &[u8], n: usize) -> &[u8]
     ensures { λ r. ⌜ now r ≡ take n (now (bytes .entry)) ⌝ }
 {
     if n < bytes.len() { &bytes[..n] } else { bytes }
-}
-
-// The output of an input of any length, of which n bytes were read into a buffer that holds as much of it as decides.
-pub fn answer_front(buffer: &[u8; DECIDING], n: usize, out: &mut [u8; LONGEST_OUTPUT]) -> usize
-    ensures { λ r. ⌜ AnsweredFront (now (buffer .entry)) n (now (out .entry)) (now (out .exit)) r ⌝ }
-{
-    answer_text(front(buffer, n), out)
 }

@@ -1,2 +1,3 @@
 pub mod Text
-pub mod AtByte
+pub mod Portions
+pub mod Carried

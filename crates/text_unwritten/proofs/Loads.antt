@@ -16,7 +16,7 @@ use Rattle.base_rows.proofs.Parts.{length-part, part-at}
 use Rattle.list_tables.specs.Tables.{contactAt, contactOf, pointOf}
 use Rattle.list_tables.proofs.Floats.{cell-read, contact-there, its-points}
 use Rattle.text_digits.specs.Bits.{printed}
-use Rattle.text_prefix.proofs.Prefix.{tables-hold}
+use Rattle.text_held.proofs.Held.{tables-hold}
 use Rattle.text_output.specs.Answer.{called, prints}
 use Rattle.text_write.specs.Lines.{line}
 use Rattle.text_rows.specs.Tables.{iLine, loads}

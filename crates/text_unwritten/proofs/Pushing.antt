@@ -29,7 +29,7 @@ use Rattle.call_rules.proofs.Pushing.{calls-push}
 use Rattle.text_digits.specs.Bits.{printed, valueOf}
 use Rattle.text_line.specs.Night.{Night, ofProgram}
 use Rattle.text_read.specs.Text.{reading, textOf}
-use Rattle.text_prefix.proofs.Prefix.{tables-hold}
+use Rattle.text_held.proofs.Held.{tables-hold}
 use Rattle.text_rows.specs.Tables.{pointsOf}
 use Rattle.text_output.specs.Answer.{called, floatsOf, lent}
 use Rattle.text_unwritten.specs.Pushing.{LinesPush, handedIn, minusZero, normalLoad}

@@ -20,7 +20,7 @@ use Rattle.text_line.specs.Lines.{LineCame, bad, filled, full, good, inContact,
 use Rattle.text_line.specs.declared.Next.{Next}
 use Rattle.text_line.specs.declared.Next.the-variants.{To, OutOfOrder}
 use Rattle.text_line.specs.declared.Place.{Place}
-use Rattle.text_read.specs.Text.{Text, closed, feed, feeds, lineEnded, reading, refused, textOf, wholeContacts}
+use Rattle.text_read.specs.Text.{Text, closed, feed, feeds, lineEnded, reading, refused, textOf, unread, wholeContacts}
 
 -- the bits that fields say
 abbrev SmallTaken : Taken → Type 0
@@ -103,27 +103,27 @@ module _ (t : Night) (before : SmallBits t) where
 -- what the lines of a text said
 abbrev SmallText : Text → Type 0
 SmallText (reading line n t) = SmallBits t
-SmallText (refused n reason) = Unit
+SmallText (refused n reason t) = Unit
 
 -- a test decides between two texts
 either : (test : Bool) (x y : Text) → SmallText x → SmallText y → SmallText (cond test x y)
 either true x y h i = h
 either false x y h i = i
 
-ended-line : (n : ℕ) (x : LineCame) → SmallCame x → SmallText (lineEnded n x)
+ended-line : (n : ℕ) (t : Night) (x : LineCame) → SmallCame x → SmallText (lineEnded n t x)
 unfolding lineEnded
-ended-line n (good t) h = h
-ended-line n (bad reason) h = tt
+ended-line n t (good t′) h = h
+ended-line n t (bad reason) h = tt
 
 -- one byte more, and so many more
 fed-small : (x : Text) (b : ℕ) → SmallText x → SmallText (feed ofProgram x b)
 unfolding feed
 fed-small (reading line n t) b h =
-    either (eqb b 10) (lineEnded n (readLine ofProgram t line))
-    (cond (ltb (length line) mostInLine) (reading (line ++ (b ∷ [])) n t) (refused n 1))
-    (ended-line n (readLine ofProgram t line) (line-small t h line))
-    (either (ltb (length line) mostInLine) (reading (line ++ (b ∷ [])) n t) (refused n 1) h tt)
-fed-small (refused n reason) b h = tt
+    either (eqb b 10) (lineEnded n t (readLine ofProgram t line))
+    (cond (ltb (length line) mostInLine) (reading (line ++ (b ∷ [])) n t) (refused n 1 t))
+    (ended-line n t (readLine ofProgram t line) (line-small t h line))
+    (either (ltb (length line) mostInLine) (reading (line ++ (b ∷ [])) n t) (refused n 1 t) h tt)
+fed-small (refused n reason t) b h = tt
 
 feeds-small : (s : List ℕ) (x : Text) → SmallText x → SmallText (feeds ofProgram x s)
 unfolding feeds
@@ -132,20 +132,20 @@ feeds-small (b ∷ s) x h = feeds-small s (feed ofProgram x b) (fed-small x b h)
 
 whole-small : (x : Text) → SmallText x → SmallText (wholeContacts x)
 unfolding wholeContacts
-whole-small (reading line n t) h = either (inContact (t .place)) (refused n 3) (reading line n t) tt h
-whole-small (refused n reason) h = tt
+whole-small (reading line n t) h = either (inContact (t .place)) (refused n 3 t) (reading line n t) tt h
+whole-small (refused n reason t) h = tt
 
 closed-small : (x : Text) → SmallText x → SmallText (closed ofProgram x)
 unfolding closed
 closed-small (reading line n t) h =
-    whole-small (cond (eqb (length line) 0) (reading [] n t) (lineEnded n (readLine ofProgram t line)))
-    (either (eqb (length line) 0) (reading [] n t) (lineEnded n (readLine ofProgram t line)) h
-    (ended-line n (readLine ofProgram t line) (line-small t h line)))
-closed-small (refused n reason) h = tt
+    whole-small (cond (eqb (length line) 0) (reading [] n t) (lineEnded n t (readLine ofProgram t line)))
+    (either (eqb (length line) 0) (reading [] n t) (lineEnded n t (readLine ofProgram t line)) h
+    (ended-line n t (readLine ofProgram t line) (line-small t h line)))
+closed-small (refused n reason t) h = tt
 
 text-small : (s : List ℕ) → SmallText (textOf ofProgram s)
-unfolding textOf blank
-text-small s = closed-small (feeds ofProgram (reading [] 1 blank) s) (feeds-small s (reading [] 1 blank) (record { bodies = tt; floats = tt }))
+unfolding textOf unread blank
+text-small s = closed-small (feeds ofProgram unread s) (feeds-small s unread (record { bodies = tt; floats = tt }))
 
 -- of a text that was read to its end
 pub bits-small : (s line : List ℕ) (n : ℕ) (t : Night) → textOf ofProgram s ≡ reading line n t → SmallBits t

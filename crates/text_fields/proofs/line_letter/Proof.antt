@@ -3,8 +3,8 @@ use borrow.Author.Needs.{needs}
 use Rattle.text_fields.proofs.line_letter.Statement.{statement}
 use Rattle.text_fields.proofs.line_letter.Tie as tie
 
-field-end-requires : tie.Need-field-end-requires
-field-end-requires c κs = search needs
+run-end-requires : tie.Need-run-end-requires
+run-end-requires c κs = search needs
 
 shared-slice-read-letter-of : tie.Need-shared-slice-read-letter-of
 shared-slice-read-letter-of c = search needs
@@ -21,4 +21,4 @@ returns-2 c = search no-letter
 pub line-letter-spec : {M : Type 1} → statement M
 line-letter-spec =
     tie.close
-    (tie.spec field-end-requires shared-slice-read-letter-of letter-of-requires returns returns-2)
+    (tie.spec run-end-requires shared-slice-read-letter-of letter-of-requires returns returns-2)

@@ -6,8 +6,8 @@ use Rattle.text_fields.proofs.read_field.Tie as tie
 returns : tie.Need-returns
 returns c = search no-field
 
-field-end-requires : tie.Need-field-end-requires
-field-end-requires c κs = search needs
+run-end-requires : tie.Need-run-end-requires
+run-end-requires c κs = search needs
 
 sub-number : tie.Need-sub-number
 sub-number c = search needs
@@ -41,7 +41,7 @@ read-field-spec =
     tie.close
     (tie.spec
     returns
-    field-end-requires
+    run-end-requires
     sub-number
     part-number-start
     part-number-end

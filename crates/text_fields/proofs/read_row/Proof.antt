@@ -6,8 +6,8 @@ use Rattle.text_fields.proofs.read_row.Tie as tie
 adds-requires : tie.Need-adds-requires
 adds-requires c κs = search needs
 
-field-end-requires : tie.Need-field-end-requires
-field-end-requires c κs = search needs
+run-end-requires : tie.Need-run-end-requires
+run-end-requires c κs = search needs
 
 add-read-fields : tie.Need-add-read-fields
 add-read-fields c = search needs
@@ -32,7 +32,7 @@ read-row-spec =
     tie.close
     (tie.spec
     adds-requires
-    field-end-requires
+    run-end-requires
     add-read-fields
     add-read-fields-2
     read-fields-requires

@@ -1,5 +1,5 @@
 -- `text_program::front` meets its contract. A part of the bytes, or all of them. Assumes nothing.
-use Rattle.text_program.proofs.Decided.{all-front, part-front}
+use Rattle.text_program.proofs.Firsts.{all-front, part-front}
 use borrow.Author.Needs.{needs}
 use Rattle.text_program.proofs.front.Statement.{statement}
 use Rattle.text_program.proofs.front.Tie as tie

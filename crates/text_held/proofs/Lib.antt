@@ -1,0 +1,4 @@
+pub mod LineCounts
+pub mod Spent
+pub mod Feeding
+pub mod Held

@@ -1,4 +1,0 @@
-pub mod LineBytes
-pub mod Spent
-pub mod Feeding
-pub mod Prefix

@@ -1,0 +1,147 @@
+-- What a reader carries, as a text that is being read, for the contracts of this crate and of those above. Assumes nothing.
+use Prim.Native.Nat.{ℕ, _-_, _≤_, _<_, min}
+use mathlib.Core.Bool.{Bool, true, false}
+use mathlib.Core.List.{List, [], _∷_, _++_}
+use mathlib.Core.Path.{_≡_}
+use lib.Dec.{eqb}
+use lib.ListN.{drop, length, take}
+use Rattle.base_words.specs.Choice.{if_then_else_}
+use Rattle.base_places.specs.Lengths.{largest, mostInLine, oneMore}
+use Rattle.text_line.specs.Night.{Night}
+use Rattle.text_fields.specs.declared.Counts.{Counts}
+use Rattle.text_line.specs.Lines.{inContact, readLine}
+use Rattle.text_line.specs.Filled.{Cells, Grown, Sane, cells, nightOf, roomOf}
+use Rattle.text_line.specs.declared.LineRead.{LineRead}
+use Rattle.text_line.specs.declared.LineRead.the-variants.{Bad as BadLine, Good}
+use Rattle.text_line.specs.declared.State.{State}
+use Rattle.text_read.specs.Text.{Text, feeds, lineEnded, reading, refused}
+use Rattle.text_read.specs.Portions.{Reading, begun, ended, going, over, taken}
+use Rattle.text_read.specs.declared.Came.{Came}
+use Rattle.text_read.specs.declared.Came.the-variants.{Bad, Fine}
+use Rattle.text_read.specs.declared.Reader.{Reader}
+use Rattle.text_read.specs.declared.Turn.{Turn}
+
+abbrev pub textBy : Came → List ℕ → ℕ → Night → Text
+textBy Fine held n t = reading held n t
+textBy (Bad reason) held n t = refused n reason t
+
+-- the first `len` bytes of `line` are those of the line that has not ended; the tables are filled as far as the state says, and no further
+-- than they are long: so a reader of any fields carries a text
+unfoldable pub textIn : Reader → List ℕ → Cells → Text
+textIn k line w = textBy (k .came) (take (k .len) line) (k .number) (nightOf (k .st) w)
+
+abbrev pub side : Bool → Text → Reading
+side false x = going x
+side true x = over x
+
+unfoldable pub readingIn : Reader → List ℕ → Cells → Reading
+readingIn k line w = side (k .over) (textIn k line w)
+
+-- a line's number goes no further than a machine word does
+unfoldable pub capped : Text → Text
+capped (reading line n t) = reading line (min n largest) t
+capped (refused n reason t) = refused (min n largest) reason t
+
+unfoldable pub cappedIn : Reading → Reading
+cappedIn (going x) = going (capped x)
+cappedIn (over x) = over (capped x)
+
+-- what the lines said, but for a bad one
+unfoldable pub said : Text → Night
+said (reading line n t) = t
+said (refused n reason t) = t
+
+unfoldable pub saidIn : Reading → Night
+saidIn (going x) = said x
+saidIn (over x) = said x
+
+-- what was said stands at the front of its table, and past it every cell is as it was
+abbrev pub onFront : List ℕ → List ℕ → List ℕ
+onFront table said = said ++ drop (length said) table
+
+unfoldable pub laid : Cells → Night → Cells
+laid w t =
+    cells (onFront (w .bodies) (t .bodies)) (onFront (w .numbers) (t .numbers)) (onFront (w .floats) (t .floats))
+    (onFront (w .steps) (t .steps))
+
+-- a call made the reader k one that carries `next` of what k carried, and the tables w those with all that was said laid over them
+pub record Went (k : Reader) (line : List ℕ) (w : Cells) (next : Reading → Reading) (k′ : Reader) (line′ : List ℕ) (w′ : Cells) : Type 0 where
+  pub is : readingIn k′ line′ w′ ≡ cappedIn (next (readingIn k line w))
+  pub tables : w′ ≡ laid w (saidIn (readingIn k′ line′ w′))
+  pub kept : roomOf w′ ≡ roomOf w
+
+-- a reader that has read nothing, whatever stands in its line and its tables
+abbrev pub Begins : Reader → Type 0
+Begins k = (line : List ℕ) (w : Cells) → readingIn k line w ≡ begun
+
+-- the portion s was taken
+abbrev pub Takes : Reader → List ℕ → Cells → List ℕ → Reader → List ℕ → Cells → Type 0
+Takes k line w s = Went k line w (λ r. taken (roomOf w) r s)
+
+-- the end was announced
+abbrev pub Ends : Reader → List ℕ → Cells → Reader → List ℕ → Cells → Type 0
+Ends k line w = Went k line w (ended (roomOf w))
+
+-- What the functions of this crate hand to each other.
+
+-- a line was bad
+abbrev pub isBad : Came → Bool
+isBad Fine = false
+isBad (Bad reason) = true
+
+-- no table filled past its end, no line longer than its room
+abbrev pub settledIn : State → Cells → State
+settledIn st w = record {
+  place = st .place;
+  bodies = min (st .bodies) (length (w .bodies));
+  numbers = min (st .numbers) (length (w .numbers));
+  floats = min (st .floats) (length (w .floats));
+  steps = min (st .steps) (length (w .steps));
+}
+
+-- a reader whose text is not refused, as one that can be fed
+abbrev pub settled : Reader → Cells → Reader
+settled k w = record { over = false; came = Fine; number = k .number; st = settledIn (k .st) w; len = min (k .len) mostInLine }
+
+pub record Sound (k : Reader) (w : Cells) : Type 0 where
+  pub fine : k .came ≡ Fine
+  pub short : k .len ≤ mostInLine
+  pub sane : Sane (k .st) w
+
+abbrev pub refusedFor : Reader → ℕ → Reader
+refusedFor k reason = record { over = k .over; came = Bad reason; number = k .number; st = k .st; len = k .len }
+
+-- after a line
+abbrev pub afterLine : Reader → LineRead → Reader
+afterLine k (Good st) = record { over = k .over; came = Fine; number = oneMore (k .number); st = st; len = 0 }
+afterLine k (BadLine reason) = refusedFor k reason
+
+-- after the last line: a contact may be cut short
+abbrev pub cutShort : Reader → Bool
+cutShort k = if isBad (k .came) then false else inContact (k .st .place)
+
+abbrev pub closedReader : Reader → Reader
+closedReader k = record { over = true; came = if cutShort k then Bad 3 else k .came; number = k .number; st = k .st; len = k .len }
+
+-- the bytes s were fed to a reader whose text is not refused; where it still is not, it can be fed more
+pub record Fed (k : Reader) (line : List ℕ) (w : Cells) (s : List ℕ) (k′ : Reader) (line′ : List ℕ) (w′ : Cells) : Type 0 where
+  pub is : capped (textIn k′ line′ w′) ≡ capped (feeds (roomOf w) (textIn k line w) s)
+  pub sound : isBad (k′ .came) ≡ false → Sound k′ w′
+  pub grown : Grown (k .st) (k′ .st) w w′
+  pub over : k′ .over ≡ k .over
+
+-- the bytes of s from i to where the turn says were
+pub record Turned (k : Reader) (line : List ℕ) (w : Cells) (s : List ℕ) (i : ℕ) (r : Turn) (line′ : List ℕ) (w′ : Cells) : Type 0 where
+  pub fed : Fed k line w (take (r .at - i) (drop i s)) (r .reader) line′ w′
+  pub on : i < r .at
+  pub within : r .at ≤ length s
+
+-- the end of a text, but for a contact that is cut short
+unfoldable pub lastLine : Counts → Text → Text
+lastLine room (reading line n t) = if eqb (length line) 0 then reading [] n t else lineEnded n t (readLine room t line)
+lastLine room (refused n reason t) = refused n reason t
+
+-- the line that has not ended was read, if there is any of it
+pub record Closes (k : Reader) (line : List ℕ) (w : Cells) (k′ : Reader) (w′ : Cells) : Type 0 where
+  pub is : capped (lastLine (roomOf w) (textIn k line w)) ≡ capped (textIn k′ line w′)
+  pub grown : Grown (k .st) (k′ .st) w w′
