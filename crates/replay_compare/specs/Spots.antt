@@ -25,6 +25,10 @@ longerLine Empty b = One b
 longerLine (One c) b = More
 longerLine More b = More
 
+abbrev pub longerBy : LineSoFar → List ℕ → LineSoFar
+longerBy line [] = line
+longerBy line (b ∷ s) = longerBy (longerLine line b) s
+
 abbrev pub holdsOnly : LineSoFar → ℕ → Bool
 holdsOnly Empty b = false
 holdsOnly (One c) b = eqb c b
@@ -42,6 +46,11 @@ abbrev pub comparedTo : Spot → Next → ℕ → Spot
 comparedTo p (Byte c after) b =
     if eqb c b then record { len = p .len; start = p .start; at = after; on = p .on; number = p .number } else off p
 comparedTo p End b = off p
+
+-- a run of bytes beside the output o
+abbrev pub comparedAll : Spot → List ℕ → List ℕ → Spot
+comparedAll p o [] = p
+comparedAll p o (b ∷ s) = comparedAll (comparedTo p (nextOf o (p .at)) b) o s
 
 abbrev pub metAtEnd : ℕ → LineSoFar → Meeting
 metAtEnd at Empty = Other

@@ -7,7 +7,7 @@ ghost use lib.ListN.{take};
 ghost use Rattle.text_digits.specs.Digits.{decField};
 ghost use Rattle.text_digits.specs.Wrote.{Wrote};
 ghost use Rattle.replay_days.specs.Judged.{dayLine, verdict};
-ghost use Rattle.replay_compare.specs.Spots.{comparedTo, endNumber, holdsOnly, longerLine, metBy, nextOf};
+ghost use Rattle.replay_compare.specs.Spots.{comparedAll, comparedTo, endNumber, holdsOnly, longerBy, metBy, nextOf};
 
 // What is known of the line so far.
 pub enum LineSoFar {
@@ -38,12 +38,21 @@ pub enum Meeting {
     Other,
 }
 
-// The line with one byte more.
-pub fn longer(line: LineSoFar, b: u8) -> LineSoFar
-    ensures { λ r. ⌜ r ≡ longerLine line b ⌝ }
+// The line with a run of bytes more.
+pub fn longer(line: LineSoFar, run: &[u8]) -> LineSoFar
+    ensures { λ r. ⌜ r ≡ longerBy line (now (run .entry)) ⌝ }
 {
+    if run.len() == 0 {
+        return line;
+    }
     match line {
-        LineSoFar::Empty => LineSoFar::One(b),
+        LineSoFar::Empty => {
+            if run.len() == 1 {
+                LineSoFar::One(run[0])
+            } else {
+                LineSoFar::More
+            }
+        }
         LineSoFar::One(_) => LineSoFar::More,
         LineSoFar::More => LineSoFar::More,
     }
@@ -72,7 +81,7 @@ pub fn next_byte(out: &[u8], len: usize, at: usize) -> Next
 }
 
 // A recorded byte beside the output's next.
-pub fn compare(p: Spot, next: Next, b: u8) -> Spot
+fn compare(p: Spot, next: Next, b: u8) -> Spot
     ensures { λ r. ⌜ r ≡ comparedTo p next b ⌝ }
 {
     let mut q = p;
@@ -87,6 +96,22 @@ pub fn compare(p: Spot, next: Next, b: u8) -> Spot
         Next::End => {
             q.on = false;
         }
+    }
+    q
+}
+
+// A run of recorded bytes beside the output, which is the first `len` bytes of the buffer.
+pub fn compare_run(p: Spot, out: &[u8], run: &[u8]) -> Spot
+    ensures { λ r. ⌜ r ≡ comparedAll p (take (p .len) (now (out .entry))) (now (run .entry)) ⌝ }
+{
+    let mut q = p;
+    let mut i = 0;
+    while i < run.len() {
+        let len = q.len;
+        let at = q.at;
+        let next = next_byte(out, len, at);
+        q = compare(q, next, run[i]);
+        i += 1;
     }
     q
 }

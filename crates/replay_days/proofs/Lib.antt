@@ -3,3 +3,4 @@ pub mod Bytes
 pub mod Portions
 pub mod Examples
 pub mod Same
+pub mod Runs

@@ -1,5 +1,5 @@
--- A line ended in a day's input: the D, after which the output stands in its buffer, or one line more. Assumes nothing.
-use Prim.Native.Nat.{ℕ, suc, _-_, _≤_, min}
+-- The D ended a day's input: the output stands in its buffer. Assumes nothing.
+use Prim.Native.Nat.{ℕ, suc, _≤_, min}
 use native.Mathlib.Omega.{arith}
 use mathlib.Core.Bool.{Bool, true, false}
 use mathlib.Core.List.{List, [], _∷_, _++_, append-nil}
@@ -7,20 +7,26 @@ use mathlib.Core.Path.{_≡_, refl, sym, _∙_, ap}
 use lib.Dec.{eqb}
 use lib.ListN.{length, length-take, take}
 use Rattle.base_words.proofs.Pick.{never}
-use Rattle.text_digits.specs.Wrote.{Wrote}
-use Rattle.base_places.specs.Lengths.{deciding, heldBytes}
-use Rattle.text_program.specs.Answered.{Answered}
+use Rattle.text_line.specs.Night.{ofProgram}
+use Rattle.text_line.specs.Filled.{Cells, roomOf}
+use Rattle.text_read.specs.Text.{feeds, unread}
+use Rattle.text_read.specs.Portions.{going}
+use Rattle.text_read.specs.Carried.{Ends, cappedIn, readingIn}
+use Rattle.text_read.specs.declared.Reader.{Reader}
+use Rattle.text_program.specs.Answered.{Answered, AnsweredRead}
 use Rattle.text_output.specs.Output.{output}
-use Rattle.text_output.proofs.Bounds.{output-fits, prefix-decides-output}
+use Rattle.text_output.proofs.Bounds.{output-fits}
 use Rattle.replay_days.specs.Judged.{linesFrom, linesOf, onlyD}
 use Rattle.replay_days.specs.Going.{partAfter}
 use Rattle.replay_compare.specs.Spots.{holdsOnly}
 use Rattle.replay_compare.specs.Meets.{Meets}
 use Rattle.replay_compare.specs.declared.LineSoFar.{LineSoFar}
+use Rattle.replay_judge.specs.Carried.{Buffers}
 use Rattle.replay_judge.specs.Stands.{EndsInput, StandsPart}
-use Rattle.replay_judge.specs.declared.Part.the-variants.{Comparing, Input}
-use Rattle.replay_judge.proofs.Holding.{held-front, held-more}
-use Rattle.replay_judge.proofs.WhatLine.{d-is, is-d}
+use Rattle.replay_judge.specs.declared.Feeding.{Feeding}
+use Rattle.replay_judge.specs.declared.Part.the-variants.{Comparing}
+use Rattle.replay_judge.proofs.Following.{fed-all}
+use Rattle.replay_judge.proofs.WhatLine.{is-d}
 
 -- the lines of a text are no more than its bytes and one
 lines-few : (s line : List ℕ) → length (linesFrom line s) ≤ suc (length s)
@@ -55,21 +61,14 @@ module _ (x out′ : List ℕ) (len : ℕ) where
         few = omega (arith, lines-few (output x) [], output-fits x);
       }
 
-module _ (line : LineSoFar) (n : ℕ) (input out : List ℕ) where
-  pub at-d : {t : Bool} {front out′ : List ℕ} {k len : ℕ} → t ≡ holdsOnly line 68 → t ≡ true → length input ≡ heldBytes
-      → k ≡ n - 1 → front ≡ take k input → Answered front out out′ len
-      → EndsInput line n input out (Comparing (record { len = len; start = 0; at = 0; on = true; number = 1 })) input out′
-  unfolding partAfter StandsPart
-  at-d {t} {front} {out′} {k} {len} e f long less cut v x l is h =
-      let d : onlyD l ≡ true = sym (is-d l is e) ∙ f in
-      let one : l ≡ 68 ∷ [] = d-is l d in
-      let decides : front ≡ take deciding x = cut ∙ rw less (held-front deciding x input n 68 (omega arith) (rw one at h)) in
-      let same-output : output front ≡ output x = rw decides (prefix-decides-output x) in
-      rw d (fresh x out′ len (rw same-output at (v .many)) (rw same-output at (v .told)))
-
-  pub one-line-more : {t : Bool} {input′ : List ℕ} {held : ℕ} → t ≡ holdsOnly line 68 → t ≡ false → Wrote input n (10 ∷ []) input′ held
-      → EndsInput line n input out (Input held) input′ out
-  unfolding partAfter StandsPart
-  one-line-more e f w x l is h =
-      let d : onlyD l ≡ false = sym (is-d l is e) ∙ f in
-      rw (d, append-nil) (held-more (x ++ l) input n 10 h w)
+pub at-d : (line : LineSoFar) (f : Feeding) (input : Buffers) (out : List ℕ) {t : Bool} {k : Reader} {w′ : Cells} {out′ : List ℕ} {len : ℕ}
+    (after : Buffers) → t ≡ holdsOnly line 68 → t ≡ true → roomOf (input .tables) ≡ ofProgram
+    → Ends (f .reader) (input .line) (input .tables) k (input .line) w′ → AnsweredRead k w′ out out′ len
+    → EndsInput line f input out (Comparing (record { len = len; start = 0; at = 0; on = true; number = 1 })) after out′
+unfolding partAfter StandsPart
+at-d line f input out {k = k} {out′ = out′} {len = len} after e d room ended v x l is h =
+    let only : onlyD l ≡ true = sym (is-d l is e) ∙ d in
+    let start : readingIn (f .reader) (input .line) (input .tables) ≡ cappedIn (going (feeds (roomOf (input .tables)) unread x)) =
+    h .carried ∙ rw (only, append-nil) in
+    let told : Answered x out out′ len = v .whole x (input .line) (rw room at (fed-all x start ended)) in
+    rw only (fresh x out′ len (told .many) (told .told))

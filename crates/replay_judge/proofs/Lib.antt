@@ -1,5 +1,5 @@
 pub mod Cases
-pub mod Holding
+pub mod Following
 pub mod WhatLine
 pub mod InputEnd
 pub mod LineEnd

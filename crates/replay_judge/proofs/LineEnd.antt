@@ -5,12 +5,13 @@ use mathlib.Core.Bool.{Bool, true, false}
 use mathlib.Core.List.{List, [], _++_}
 use mathlib.Core.Path.{_≡_, refl, sym, _∙_, subst}
 use lib.ListN.{length, take}
+use Rattle.base_places.specs.Lengths.{largest, oneMore}
 use Rattle.text_digits.specs.Wrote.{Wrote}
 use Rattle.text_digits.proofs.Then.{as-long, nothing, room}
 use Rattle.replay_days.specs.Judged.{onlyZ, verdict}
 use Rattle.replay_days.specs.Going as going
 use Rattle.replay_days.specs.Going.{comparing, dayAfter, differing, lineEnded, lineTells, meets, partAfter, reading}
-use Rattle.replay_compare.specs.Spots.{largest, endNumber, holdsOnly, metBy, nextOf, oneMore, shapeOf}
+use Rattle.replay_compare.specs.Spots.{endNumber, holdsOnly, metBy, nextOf, shapeOf}
 use Rattle.replay_compare.specs.Meets.{Meets}
 use Rattle.replay_compare.specs.declared.LineSoFar.{LineSoFar}
 use Rattle.replay_compare.specs.declared.LineSoFar.the-variants.{Empty}
@@ -19,23 +20,23 @@ use Rattle.replay_compare.specs.declared.Meeting.the-variants.{Line as NextLine
 use Rattle.replay_compare.specs.declared.Next.{Next}
 use Rattle.replay_compare.specs.declared.Spot.{Spot}
 use Rattle.replay_compare.proofs.Beside.{Beside, IsNext, end-beside, line-beside}
-use Rattle.replay_compare.proofs.Cases.{goes-up}
-use Rattle.replay_judge.specs.Carried.{differingAfter, nextDay, nextLine}
-use Rattle.replay_judge.specs.Stands.{EndsComparing, EndsInput, EndsLine, Held, StandsPart}
+use Rattle.replay_judge.specs.Carried.{Buffers, differingAfter, nextDay, nextLine, unfed}
+use Rattle.replay_judge.specs.Stands.{EndsComparing, EndsInput, EndsLine, Follows, StandsPart}
+use Rattle.replay_judge.specs.declared.Feeding.{Feeding}
 use Rattle.replay_judge.specs.declared.Judge.{Judge}
 use Rattle.replay_judge.specs.declared.Part.{Part}
 use Rattle.replay_judge.specs.declared.Part.the-variants.{Comparing, Differing, Input}
 use Rattle.replay_judge.specs.declared.Turned.{Turned}
-use Rattle.replay_judge.proofs.Holding.{held-none}
+use Rattle.replay_judge.proofs.Following.{unfed-follows}
 use Rattle.replay_judge.proofs.WhatLine.{is-z}
 
 -- what is carried tells the part
-module _ (P : going.Part → Type 0) (input out l : List ℕ) where
-  pub in-input : (n : ℕ) → ((x : List ℕ) → Held (x ++ l) input n → P (reading x)) → (q : going.Part) → StandsPart (Input n) input out q l → P q
+module _ (P : going.Part → Type 0) (input : Buffers) (out l : List ℕ) where
+  pub in-input : (f : Feeding) → ((x : List ℕ) → Follows f input x l → P (reading x)) → (q : going.Part) → StandsPart (Input f) input out q l → P q
   unfolding StandsPart
-  in-input n f (reading x) s = f x s
-  in-input n f (comparing left k) s = absurd s
-  in-input n f differing s = absurd s
+  in-input f h (reading x) s = h x s
+  in-input f h (comparing left k) s = absurd s
+  in-input f h differing s = absurd s
 
   pub in-comparing : (p : Spot) → ((left : List (List ℕ)) (k : ℕ) → Meets p out l left k → P (comparing left k))
       → (q : going.Part) → StandsPart (Comparing p) input out q l → P q
@@ -51,8 +52,8 @@ module _ (P : going.Part → Type 0) (input out l : List ℕ) where
   in-differing f differing s = f
 
 -- a line ended in a part of a day that is carried as `part`
-pub record PartEnds (day : ℕ) (line : LineSoFar) (part : Part) (input out told : List ℕ) (at : ℕ) (r : Turned)
-    (input′ out′ told′ : List ℕ) : Type 0 where
+pub record PartEnds (day : ℕ) (line : LineSoFar) (part : Part) (input : Buffers) (out told : List ℕ) (at : ℕ) (r : Turned)
+    (input′ : Buffers) (out′ told′ : List ℕ) : Type 0 where
   wrote : (q : going.Part) (l : List ℕ) → line ≡ shapeOf l → StandsPart part input out q l → Wrote told at (lineTells day q l) told′ (r .at)
   within : r .at ≤ length told
   next : (q : going.Part) (l : List ℕ) → line ≡ shapeOf l → StandsPart part input out q l → day + 1 ≤ largest
@@ -61,7 +62,7 @@ pub record PartEnds (day : ℕ) (line : LineSoFar) (part : Part) (input out told
   goes : (q : going.Part) (l : List ℕ) → line ≡ shapeOf l → StandsPart part input out q l
       → StandsPart (r .judge .part) input′ out′ (partAfter q l) []
 
-pub part-ends : (j : Judge) (input out told : List ℕ) (at : ℕ) (r : Turned) (input′ out′ told′ : List ℕ)
+pub part-ends : (j : Judge) (input : Buffers) (out told : List ℕ) (at : ℕ) (r : Turned) (input′ : Buffers) (out′ told′ : List ℕ)
     → PartEnds (j .day) (j .line) (j .part) input out told at r input′ out′ told′
     → EndsLine j input out told at r input′ out′ told′
 unfolding lineEnded
@@ -75,21 +76,21 @@ part-ends j input out told at r input′ out′ told′ e = record {
 }
 
 -- in a day's input nothing is told
-pub input-ends : (day : ℕ) (line : LineSoFar) (n : ℕ) (input out told : List ℕ) (at : ℕ) (next : Part) (input′ out′ : List ℕ)
-    → at ≤ length told → EndsInput line n input out next input′ out′
-    → PartEnds day line (Input n) input out told at (record { judge = record { day = day; line = Empty; part = next }; at = at })
+pub input-ends : (day : ℕ) (line : LineSoFar) (f : Feeding) (input : Buffers) (out told : List ℕ) (at : ℕ) (next : Part) (input′ : Buffers) (out′ : List ℕ)
+    → at ≤ length told → EndsInput line f input out next input′ out′
+    → PartEnds day line (Input f) input out told at (record { judge = record { day = day; line = Empty; part = next }; at = at })
     input′ out′ told
 unfolding lineTells dayAfter
-input-ends day line n input out told at next input′ out′ h e = record {
-  wrote = λ q l is. in-input (λ q. Wrote told at (lineTells day q l) told at) input out l n (λ x held. nothing told at h) q;
+input-ends day line f input out told at next input′ out′ h e = record {
+  wrote = λ q l is. in-input (λ q. Wrote told at (lineTells day q l) told at) input out l f (λ x held. nothing told at h) q;
   within = h;
-  next = λ q l is s few. in-input (λ q. day ≡ dayAfter day q l) input out l n (λ x held. refl) q s;
+  next = λ q l is s few. in-input (λ q. day ≡ dayAfter day q l) input out l f (λ x held. refl) q s;
   none = refl;
-  goes = λ q l is. in-input (λ q. StandsPart next input′ out′ (partAfter q l) []) input out l n (λ x held. e x l is held) q;
+  goes = λ q l is. in-input (λ q. StandsPart next input′ out′ (partAfter q l) []) input out l f (λ x held. e x l is held) q;
 }
 
 -- after a line that differed nothing is told
-module _ (day : ℕ) (line : LineSoFar) (input out told : List ℕ) (at : ℕ) (h : at ≤ length told) where
+module _ (day : ℕ) (line : LineSoFar) (input : Buffers) (out told : List ℕ) (at : ℕ) (h : at ≤ length told) where
   pub differing-ends-by : (z : Bool) → holdsOnly line 90 ≡ z → PartEnds day line Differing input out told at (differingAfter day line at) input out told
   unfolding lineTells dayAfter partAfter StandsPart
   differing-ends-by true e =
@@ -99,9 +100,9 @@ module _ (day : ℕ) (line : LineSoFar) (input out told : List ℕ) (at : ℕ) (
         wrote = λ q l is. in-differing (λ q. Wrote told at (lineTells day q l) told at) input out l (nothing told at h) q;
         within = h;
         next = λ q l is s few.
-            in-differing (λ q. oneMore day ≡ dayAfter day q l) input out l (rw (z l is) (sym (goes-up (omega arith)))) q s;
+            in-differing (λ q. oneMore day ≡ dayAfter day q l) input out l (rw (z l is) (omega arith)) q s;
         none = refl;
-        goes = λ q l is. in-differing (λ q. StandsPart (Input 0) input out (partAfter q l) []) input out l (rw (z l is) (held-none input)) q;
+        goes = λ q l is. in-differing (λ q. StandsPart (Input unfed) input out (partAfter q l) []) input out l (rw (z l is) (unfed-follows input)) q;
       })
   differing-ends-by false e =
       let z : (l : List ℕ) → line ≡ shapeOf l → onlyZ l ≡ false = λ l is. sym (is-z l is refl) ∙ e in
@@ -118,7 +119,7 @@ module _ (day : ℕ) (line : LineSoFar) (input out told : List ℕ) (at : ℕ) (
   differing-ends = differing-ends-by (holdsOnly line 90) refl
 
 -- a recorded line, before any that differs
-module _ (day : ℕ) (line : LineSoFar) (p : Spot) (input out told : List ℕ) (at : ℕ) where
+module _ (day : ℕ) (line : LineSoFar) (p : Spot) (input : Buffers) (out told : List ℕ) (at : ℕ) where
   -- the Z
   pub at-z : {t : Bool} {told′ : List ℕ} {after : ℕ} → t ≡ holdsOnly line 90 → t ≡ true
       → Wrote told at (verdict day (endNumber p)) told′ after
@@ -132,10 +133,10 @@ module _ (day : ℕ) (line : LineSoFar) (p : Spot) (input out told : List ℕ) (
             (λ left k m. rw (z l is, ← end-beside p out l left k day m) w) q;
         within = omega (arith, room w, as-long w);
         next = λ q l is s few.
-            in-comparing (λ q. oneMore day ≡ dayAfter day q l) input out l p (λ left k m. rw (z l is) (sym (goes-up (omega arith)))) q s;
+            in-comparing (λ q. oneMore day ≡ dayAfter day q l) input out l p (λ left k m. rw (z l is) (omega arith)) q s;
         none = refl;
         goes = λ q l is.
-            in-comparing (λ q. StandsPart (Input 0) input out (partAfter q l) []) input out l p (λ left k m. rw (z l is) (held-none input)) q;
+            in-comparing (λ q. StandsPart (Input unfed) input out (partAfter q l) []) input out l p (λ left k m. rw (z l is) (unfed-follows input)) q;
       }
 
   module _ {t : Bool} (e : t ≡ holdsOnly line 90) (f : t ≡ false) {next : Next} (n : next ≡ nextOf (take (p .len) out) (p .at))
@@ -188,7 +189,7 @@ module _ (day : ℕ) (line : LineSoFar) (p : Spot) (input out told : List ℕ) (
 
 -- as the program comes to them
 module _ (day : ℕ) (line : LineSoFar) (p : Spot) (out told : List ℕ) (at : ℕ) where
-  ends-comparing : {r : Turned} {told′ : List ℕ} → ((input : List ℕ) → PartEnds day line (Comparing p) input out told at r input out told′)
+  ends-comparing : {r : Turned} {told′ : List ℕ} → ((input : Buffers) → PartEnds day line (Comparing p) input out told at r input out told′)
       → EndsComparing day line p out told at r told′
   ends-comparing {r} {told′} e input =
       part-ends (record { day = day; line = line; part = Comparing p }) input out told at r input out told′ (e input)
@@ -207,12 +208,12 @@ module _ (day : ℕ) (line : LineSoFar) (p : Spot) (out told : List ℕ) (at : �
         → EndsComparing day line p out told at (record { judge = record { day = day; line = Empty; part = Differing }; at = after }) told′
     other-ends is w = ends-comparing (λ input. at-other day line p input out told at e f n met is w)
 
-module _ (j : Judge) (input out told : List ℕ) (at : ℕ) where
-  pub input-line : {n : ℕ} {next : Part} {input′ out′ : List ℕ} → j .part ≡ Input n → at ≤ length told
-      → EndsInput (j .line) n input out next input′ out′
+module _ (j : Judge) (input : Buffers) (out told : List ℕ) (at : ℕ) where
+  pub input-line : {f : Feeding} {next : Part} {input′ : Buffers} {out′ : List ℕ} → j .part ≡ Input f → at ≤ length told
+      → EndsInput (j .line) f input out next input′ out′
       → EndsLine j input out told at (record { judge = record { day = j .day; line = Empty; part = next }; at = at }) input′ out′ told
-  input-line {n} {next} {input′} {out′} e h v =
-      part-ends j input out told at _ input′ out′ told (rw e (input-ends (j .day) (j .line) n input out told at next input′ out′ h v))
+  input-line {f} {next} {input′} {out′} e h v =
+      part-ends j input out told at _ input′ out′ told (rw e (input-ends (j .day) (j .line) f input out told at next input′ out′ h v))
 
   pub comparing-line : {p : Spot} {r : Turned} {told′ : List ℕ} → j .part ≡ Comparing p → EndsComparing (j .day) (j .line) p out told at r told′
       → EndsLine j input out told at r input out told′

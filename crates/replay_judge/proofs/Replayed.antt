@@ -5,17 +5,19 @@ use mathlib.Core.List.{List, [], _∷_, _++_}
 use mathlib.Core.Path.{_≡_, _∙_}
 use lib.ListN.{length, length-append}
 use Rattle.replay_days.specs.Going.{Going, feeds, start}
-use Rattle.replay_days.specs.Portions.{inPortions, whole}
+use Rattle.base_places.specs.Lengths.{largest}
+use Rattle.text_read.specs.Portions.{whole}
+use Rattle.replay_days.specs.Portions.{inPortions}
 use Rattle.replay_days.proofs.Portions.{any-portions, days-few}
 use Rattle.replay_judge.specs.Replayed.{Calls, Replayed}
-use Rattle.replay_compare.specs.Spots.{largest}
+use Rattle.replay_judge.specs.Carried.{Buffers}
 use Rattle.replay_judge.specs.Stands.{Stands}
 use Rattle.replay_judge.specs.declared.Judge.{Judge}
 use Rattle.replay_judge.proofs.Finished.{first-day}
 
 abbrev Told : List (List ℕ) → Type 0
 Told portions =
-    (j : Judge) (input out written : List ℕ) (g : Going) → Stands j input out g → g .day + length (whole portions) + 1 ≤ largest
+    (j : Judge) (input : Buffers) (out written : List ℕ) (g : Going) → Stands j input out g → g .day + length (whole portions) + 1 ≤ largest
     → Calls portions j input out written → written ≡ inPortions g portions
 
 module _ (s : List ℕ) (portions : List (List ℕ)) (on : Told portions) where

@@ -6,14 +6,15 @@ use mathlib.Core.List.{List, [], _∷_, _++_}
 use mathlib.Core.Path.{_≡_}
 use lib.ListN.{length, take}
 use Rattle.replay_days.specs.Judged.{judged}
-use Rattle.replay_days.specs.Portions.{whole}
-use Rattle.replay_compare.specs.Spots.{largest}
+use Rattle.base_places.specs.Lengths.{largest}
+use Rattle.text_read.specs.Portions.{whole}
+use Rattle.replay_judge.specs.Carried.{Buffers}
 use Rattle.replay_judge.specs.Stands.{Begins, Finishes, Read}
 use Rattle.replay_judge.specs.declared.Judge.{Judge}
 use Rattle.replay_judge.specs.declared.Turned.{Turned}
 
 -- the last call, of `judge_end`: `written` is what it told
-pub record LastCall (j : Judge) (input out written : List ℕ) : Type 0 where
+pub record LastCall (j : Judge) (input : Buffers) (out written : List ℕ) : Type 0 where
   pub told : List ℕ
   pub told′ : List ℕ
   pub at : ℕ
@@ -21,10 +22,10 @@ pub record LastCall (j : Judge) (input out written : List ℕ) : Type 0 where
   pub all : written ≡ take at told′
 
 -- a call of `judge_read` on s, and the calls after it: `written` is what they told
-pub record NextCall (s : List ℕ) (Calls : Judge → List ℕ → List ℕ → List ℕ → Type 0) (j : Judge) (input out written : List ℕ) : Type 0 where
+pub record NextCall (s : List ℕ) (Calls : Judge → Buffers → List ℕ → List ℕ → Type 0) (j : Judge) (input : Buffers) (out written : List ℕ) : Type 0 where
   pub told : List ℕ
   pub turned : Turned
-  pub input′ : List ℕ
+  pub input′ : Buffers
   pub out′ : List ℕ
   pub told′ : List ℕ
   pub more : List ℕ
@@ -32,11 +33,11 @@ pub record NextCall (s : List ℕ) (Calls : Judge → List ℕ → List ℕ → 
   pub after : Calls (turned .judge) input′ out′ more
   pub all : written ≡ take (turned .at) told′ ++ more
 
-unfoldable pub Calls : List (List ℕ) → Judge → List ℕ → List ℕ → List ℕ → Type 0
+unfoldable pub Calls : List (List ℕ) → Judge → Buffers → List ℕ → List ℕ → Type 0
 Calls [] = LastCall
 Calls (s ∷ portions) = NextCall s (Calls portions)
 
 abbrev pub Replayed : Type 0
 Replayed =
-    (portions : List (List ℕ)) (j : Judge) (input out written : List ℕ) → Begins j → length (whole portions) + 2 ≤ largest
+    (portions : List (List ℕ)) (j : Judge) (input : Buffers) (out written : List ℕ) → Begins j → length (whole portions) + 2 ≤ largest
     → Calls portions j input out written → written ≡ judged (whole portions)

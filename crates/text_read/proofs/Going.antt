@@ -15,11 +15,11 @@ use Rattle.text_fields.proofs.Runs.{front-free, stops}
 use Rattle.text_line.specs.Night.{Night, blank}
 use Rattle.text_line.specs.Filled.{Appended, Cells, Grown, ReadLine, nightOf, roomOf}
 use Rattle.text_line.specs.declared.LineRead.{LineRead}
-use Rattle.text_line.specs.declared.Place.the-variants.{Bodies}
 use Rattle.text_line.specs.declared.State.{State}
 use Rattle.text_read.specs.Text.{Text, feeds, reading, refused, unread}
 use Rattle.text_read.specs.Portions.{begun, going, over, taken}
 use Rattle.text_read.specs.Carried.{
+  Begins,
   Fed,
   Sound,
   Takes,
@@ -27,6 +27,7 @@ use Rattle.text_read.specs.Carried.{
   afterLine,
   capped,
   cappedIn,
+  fresh,
   isBad,
   laid,
   readingIn,
@@ -141,7 +142,7 @@ module _ (s : List ℕ) (i end : ℕ) (at-end : end ≡ i + until 10 (drop i s))
     pub line-free : Free 10 (take (end - i) (drop i s))
     line-free = rw gone (front-free 10 (drop i s))
 
-    line-whole : take (end + 1 - i) (drop i s) ≡ take (end - i) (drop i s) ++ (10 ∷ [])
+    pub line-whole : take (end + 1 - i) (drop i s) ≡ take (end - i) (drop i s) ++ (10 ∷ [])
     line-whole =
         let inside : until 10 (drop i s) < length (drop i s) = rw length-drop (omega arith) in
         let e : end + 1 - i ≡ suc (until 10 (drop i s)) = omega arith in
@@ -259,10 +260,6 @@ module _ (k : Reader) (line : List ℕ) (w : Cells) (s : List ℕ) where
       }
 
 -- nothing has been read
-pub begins : (line : List ℕ) (w : Cells)
-    → readingIn
-    (record { over = false; came = Fine; number = 1; st = record { place = Bodies; bodies = 0; numbers = 0; floats = 0; steps = 0 }; len = 0 })
-    line w
-    ≡ begun
+pub begins : Begins fresh
 unfolding readingIn textIn nightOf begun unread blank
 begins line w = refl

@@ -13,6 +13,7 @@ use Rattle.text_line.specs.Lines.{inContact, readLine}
 use Rattle.text_line.specs.Filled.{Cells, Grown, Sane, cells, nightOf, roomOf}
 use Rattle.text_line.specs.declared.LineRead.{LineRead}
 use Rattle.text_line.specs.declared.LineRead.the-variants.{Bad as BadLine, Good}
+use Rattle.text_line.specs.declared.Place.the-variants.{Bodies}
 use Rattle.text_line.specs.declared.State.{State}
 use Rattle.text_read.specs.Text.{Text, feeds, lineEnded, reading, refused}
 use Rattle.text_read.specs.Portions.{Reading, begun, ended, going, over, taken}
@@ -70,7 +71,10 @@ pub record Went (k : Reader) (line : List ℕ) (w : Cells) (next : Reading → R
   pub tables : w′ ≡ laid w (saidIn (readingIn k′ line′ w′))
   pub kept : roomOf w′ ≡ roomOf w
 
--- a reader that has read nothing, whatever stands in its line and its tables
+-- a reader that has read nothing, whatever stands in its line and its tables: this one
+abbrev pub fresh : Reader
+fresh = record { over = false; came = Fine; number = 1; st = record { place = Bodies; bodies = 0; numbers = 0; floats = 0; steps = 0 }; len = 0 }
+
 abbrev pub Begins : Reader → Type 0
 Begins k = (line : List ℕ) (w : Cells) → readingIn k line w ≡ begun
 

@@ -18,7 +18,7 @@ ghost use Rattle.base_places.specs.Lengths.{mostInLine};
 ghost use Rattle.text_line.specs.Filled.{Appended, cells, roomOf};
 ghost use Rattle.text_read.specs.Text.{textOf};
 ghost use Rattle.text_read.specs.Portions.{over};
-ghost use Rattle.text_read.specs.Carried.{Begins, Closes, Ends, Fed, Sound, Takes, Turned, afterLine, cappedIn, closedReader, isBad, readingIn, refusedFor, settled, settledIn};
+ghost use Rattle.text_read.specs.Carried.{Closes, Ends, Fed, Sound, Takes, Turned, afterLine, cappedIn, closedReader, fresh, isBad, readingIn, refusedFor, settled, settledIn};
 
 // What ends a line.
 const LINE_END: u8 = 10;
@@ -255,7 +255,7 @@ fn feed(
 
 // Nothing has been read.
 pub fn begin() -> Reader
-    ensures { λ r. ⌜ Begins r ⌝ }
+    ensures { λ r. ⌜ r ≡ fresh ⌝ }
 {
     Reader {
         over: false,

@@ -22,14 +22,14 @@ tell-verdict-requires c κs = search needs
 enum-told : tie.Need-enum-told
 enum-told c = search needs
 
-returns : tie.Need-returns
-returns c = search no-day
-
 same-length : tie.Need-same-length
 same-length c = search needs
 
+returns : tie.Need-returns
+returns c = search day-without-d
+
 returns-2 : tie.Need-returns-2
-returns-2 c = search day-without-d
+returns-2 c = search no-day
 
 same-length-2 : tie.Need-same-length-2
 same-length-2 c = search needs
@@ -50,8 +50,8 @@ end-day-spec =
     end-number-requires
     tell-verdict-requires
     enum-told
-    returns
     same-length
+    returns
     returns-2
     same-length-2
     returns-3

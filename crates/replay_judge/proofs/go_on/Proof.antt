@@ -10,23 +10,17 @@ longer-requires c κs = search needs
 enum-known-part : tie.Need-enum-known-part
 enum-known-part c = search needs
 
-put-requires : tie.Need-put-requires
-put-requires c κs = search needs
+feed-run-requires : tie.Need-feed-run-requires
+feed-run-requires c κs = search needs
 
 enum-known-part-2 : tie.Need-enum-known-part-2
 enum-known-part-2 c = search needs
 
-next-byte-requires : tie.Need-next-byte-requires
-next-byte-requires c κs = search needs
-
-compare-requires : tie.Need-compare-requires
-compare-requires c κs = search needs
+compare-run-requires : tie.Need-compare-run-requires
+compare-run-requires c κs = search needs
 
 enum-told : tie.Need-enum-told
 enum-told c = search needs
-
-same-length : tie.Need-same-length
-same-length c = search needs
 
 returns : tie.Need-returns
 returns c = search input-on
@@ -43,12 +37,10 @@ go-on-spec =
     (tie.spec
     longer-requires
     enum-known-part
-    put-requires
+    feed-run-requires
     enum-known-part-2
-    next-byte-requires
-    compare-requires
+    compare-run-requires
     enum-told
-    same-length
     returns
     returns-2
     returns-3)

@@ -17,7 +17,7 @@ same-length : tie.Need-same-length
 same-length c = search needs
 
 returns : tie.Need-returns
-returns c = search file-judged
+returns c = file-judged _ _ _ _ ((c .before .before .end-file .ensures)) ((c .before .before .before .before .before .before .before .before .before .before .before .before .before .judge-portion .ensures .0)) ((c .before .before .before .before .before .before .before .before .before .before .before .before .before .before .before .before .before .before .before .before .before .begin .ensures)) ((c .before .before .before .before .before .before .before .before .before .before .before .before .before .judge-portion .ensures .1))
 
 pub judge-file-spec : {M : Type 1} → statement M
 judge-file-spec =

@@ -1,4 +1,5 @@
 -- `text_read::read_text` meets its contract. Assumes nothing.
+use Rattle.text_read.proofs.Going.{begins}
 use Rattle.text_read.proofs.Whole.{read-whole}
 use borrow.Author.Needs.{needs}
 use Rattle.text_read.proofs.read_text.Statement.{statement}
@@ -26,7 +27,7 @@ same-length-4 : tie.Need-same-length-4
 same-length-4 c = search needs
 
 returns : tie.Need-returns
-returns c = read-whole _ ((c .before .before .before .before .before .before .before .before .before .before .before .before .before .before .before .before .before .before .before .before .before .before .before .before .before .before .before .before .begin .ensures)) ((c .before .before .before .before .before .before .before .before .before .before .before .before .before .before .before .before .before .before .before .before .before .before .portion .ensures)) ((c .before .before .before .before .before .before .before .before .end .ensures))
+returns c = read-whole _ (rw ((c .before .before .before .before .before .before .before .before .before .before .before .before .before .before .before .before .before .before .before .before .before .before .before .before .before .before .before .before .begin .ensures)) begins) ((c .before .before .before .before .before .before .before .before .before .before .before .before .before .before .before .before .before .before .before .before .before .before .portion .ensures)) ((c .before .before .before .before .before .before .before .before .end .ensures))
 
 pub read-text-spec : {M : Type 1} → statement M
 read-text-spec =
