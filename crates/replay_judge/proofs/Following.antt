@@ -11,13 +11,12 @@ use Rattle.base_words.proofs.Pick.{never}
 use Rattle.base_places.specs.Lengths.{largest}
 use Rattle.text_fields.specs.declared.Counts.{Counts}
 use Rattle.text_line.specs.Filled.{Cells, roomOf}
-use Rattle.text_read.specs.Text.{closed, feeds, textOf, unread}
-use Rattle.text_read.specs.Portions.{begun, ended, going, over, taken}
-use Rattle.text_read.specs.Carried.{Ends, Takes, capped, cappedIn, fresh, readingIn}
+use Rattle.text_read.specs.Text.{feeds, unread}
+use Rattle.text_read.specs.Portions.{begun, going}
+use Rattle.text_read.specs.Carried.{Takes, capped, cappedIn, readingIn}
 use Rattle.text_read.specs.declared.Reader.{Reader}
-use Rattle.text_read.proofs.Capping.{ended-capped, taken-capped}
-use Rattle.text_read.proofs.Feeding.{feeds-append}
 use Rattle.text_read.proofs.Going.{begins}
+use Rattle.text_read.proofs.Whole.{fed-more}
 use Rattle.replay_days.specs.Judged.{onlyD, same}
 use Rattle.replay_days.specs.Going.{partAfter, reading}
 use Rattle.replay_compare.specs.Spots.{holdsOnly, shapeOf}
@@ -53,21 +52,6 @@ unfed-follows input = record {
   carried = begins (input .line) (input .tables) ∙ unfed-by (roomOf (input .tables)) ∙ rw none-back;
   any = refl;
 }
-
--- a reader that was fed y, and then s
-module _ {k k′ : Reader} {line line′ : List ℕ} {w w′ : Cells} (y s : List ℕ) where
-  pub fed-more : readingIn k line w ≡ cappedIn (going (feeds (roomOf w) unread y)) → Takes k line w s k′ line′ w′
-      → readingIn k′ line′ w′ ≡ cappedIn (going (feeds (roomOf w′) unread (y ++ s)))
-  unfolding taken
-  fed-more e d =
-      d .is ∙ rw (e, d .kept, feeds-append (roomOf w) unread y s) (taken-capped (roomOf w) (going (feeds (roomOf w) unread y)) s)
-
--- or to which the end was announced
-pub fed-all : {k k′ : Reader} {line line′ : List ℕ} {w w′ : Cells} (y : List ℕ)
-    → readingIn k line w ≡ cappedIn (going (feeds (roomOf w) unread y)) → Ends k line w k′ line′ w′
-    → readingIn k′ line′ w′ ≡ cappedIn (over (textOf (roomOf w) y))
-unfolding ended textOf
-fed-all {w = w} y e d = d .is ∙ rw e (ended-capped (roomOf w) (going (feeds (roomOf w) unread y)))
 
 -- a line that goes on to be only a D was empty, or was one before
 cut : (b : ℕ) (run : List ℕ) → b ∷ run ≡ 68 ∷ [] → b ∷ [] ≡ 68 ∷ []

@@ -13,6 +13,7 @@ use Rattle.text_read.specs.Text.{feeds, unread}
 use Rattle.text_read.specs.Portions.{going}
 use Rattle.text_read.specs.Carried.{Ends, cappedIn, readingIn}
 use Rattle.text_read.specs.declared.Reader.{Reader}
+use Rattle.text_read.proofs.Whole.{fed-whole}
 use Rattle.text_program.specs.Answered.{Answered, AnsweredRead}
 use Rattle.text_output.specs.Output.{output}
 use Rattle.text_output.proofs.Bounds.{output-fits}
@@ -25,7 +26,6 @@ use Rattle.replay_judge.specs.Carried.{Buffers}
 use Rattle.replay_judge.specs.Stands.{EndsInput, StandsPart}
 use Rattle.replay_judge.specs.declared.Feeding.{Feeding}
 use Rattle.replay_judge.specs.declared.Part.the-variants.{Comparing}
-use Rattle.replay_judge.proofs.Following.{fed-all}
 use Rattle.replay_judge.proofs.WhatLine.{is-d}
 
 -- the lines of a text are no more than its bytes and one
@@ -70,5 +70,5 @@ at-d line f input out {k = k} {out′ = out′} {len = len} after e d room ended
     let only : onlyD l ≡ true = sym (is-d l is e) ∙ d in
     let start : readingIn (f .reader) (input .line) (input .tables) ≡ cappedIn (going (feeds (roomOf (input .tables)) unread x)) =
     h .carried ∙ rw (only, append-nil) in
-    let told : Answered x out out′ len = v .whole x (input .line) (rw room at (fed-all x start ended)) in
+    let told : Answered x out out′ len = v .whole x (input .line) (rw room at (fed-whole x start ended)) in
     rw only (fresh x out′ len (told .many) (told .told))

@@ -263,3 +263,17 @@ module _ (k : Reader) (line : List ℕ) (w : Cells) (s : List ℕ) where
 pub begins : Begins fresh
 unfolding readingIn textIn nightOf begun unread blank
 begins line w = refl
+
+-- no byte was taken
+none-side : (k : Reader) (line : List ℕ) (w : Cells) → k .number ≤ largest → (o : Bool) → k .over ≡ o
+    → readingIn k line w ≡ cappedIn (taken (roomOf w) (readingIn k line w) [])
+unfolding readingIn taken cappedIn textIn feeds
+none-side k line w h true e = rw e (ap over (sym (low k line w h)))
+none-side k line w h false e = rw e (ap going (sym (low k line w h)))
+
+pub none-taken : (k : Reader) (line : List ℕ) (w : Cells) → k .number ≤ largest → Takes k line w [] k line w
+none-taken k line w h = record {
+  is = none-side k line w h (k .over) refl;
+  tables = same-laid (k .st) w ∙ ap (laid w) (sym (said-in k line w));
+  kept = refl;
+}

@@ -2,7 +2,7 @@
 use Prim.Native.Nat.{ℕ}
 use native.Mathlib.Omega.{arith}
 use mathlib.Core.Bool.{Bool, true, false}
-use mathlib.Core.List.{List, []}
+use mathlib.Core.List.{List, [], _++_}
 use mathlib.Core.Path.{_≡_, refl, sym, _∙_, ap}
 use lib.Dec.{eqb}
 use lib.ListN.{length, take}
@@ -18,7 +18,8 @@ use Rattle.text_read.specs.Carried.{Begins, Ends, Takes, capped, cappedI
 use Rattle.text_read.specs.declared.Came.{Came}
 use Rattle.text_read.specs.declared.Came.the-variants.{Bad, Fine}
 use Rattle.text_read.specs.declared.Reader.{Reader}
-use Rattle.text_read.proofs.Capping.{closed-last, ended-capped}
+use Rattle.text_read.proofs.Capping.{closed-last, ended-capped, taken-capped}
+use Rattle.text_read.proofs.Feeding.{feeds-append}
 
 -- a text without the line that has not ended
 abbrev emptied : Text → Text
@@ -91,3 +92,18 @@ module _ {k k₁ r : Reader} {line line₁ line₂ : List ℕ} {w w₁ w₂ : Ce
   pub read-whole : Begins k → Takes k line w s k₁ line₁ w₁ → Ends k₁ line₁ w₁ r line₂ w₂ → readingIn r [] w₂ ≡ cappedIn (over (textOf (roomOf w) s))
   unfolding cappedIn textOf
   read-whole b d e = after-end (roomOf w) (feeds (roomOf w) unread s) r line₂ w₂ (came b d e)
+
+-- a reader that was fed y, and then s
+pub fed-more : {k k′ : Reader} {line line′ : List ℕ} {w w′ : Cells} (y s : List ℕ)
+    → readingIn k line w ≡ cappedIn (going (feeds (roomOf w) unread y)) → Takes k line w s k′ line′ w′
+    → readingIn k′ line′ w′ ≡ cappedIn (going (feeds (roomOf w′) unread (y ++ s)))
+unfolding taken
+fed-more {w = w} y s e d =
+    d .is ∙ rw (e, d .kept, feeds-append (roomOf w) unread y s) (taken-capped (roomOf w) (going (feeds (roomOf w) unread y)) s)
+
+-- or to which the end was announced
+pub fed-whole : {k k′ : Reader} {line line′ : List ℕ} {w w′ : Cells} (y : List ℕ)
+    → readingIn k line w ≡ cappedIn (going (feeds (roomOf w) unread y)) → Ends k line w k′ line′ w′
+    → readingIn k′ line′ w′ ≡ cappedIn (over (textOf (roomOf w) y))
+unfolding ended textOf
+fed-whole {w = w} y e d = d .is ∙ rw e (ended-capped (roomOf w) (going (feeds (roomOf w) unread y)))

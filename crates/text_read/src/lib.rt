@@ -45,7 +45,8 @@ struct Turn {
     at: usize,
 }
 
-fn is_bad(c: Came) -> bool
+// Whether a line was bad.
+pub fn is_bad(c: Came) -> bool
     ensures { λ r. ⌜ r ≡ isBad c ⌝ }
 {
     match c {

@@ -5,10 +5,10 @@ use Rattle.replay.proofs.main.Statement.{statement}
 use Rattle.replay.proofs.main.Tie as tie
 
 abbrev Inv-loop : tie.InvT-loop
-Inv-loop portion₀ input₀ out₀ told₀ j₀ turns₀ t8 portion input out told j turns = Unit {0}
+Inv-loop portion₀ held₀ bodies₀ numbers₀ floats₀ steps₀ out₀ told₀ j₀ turns₀ t8 portion held bodies numbers floats steps out told j turns = Unit {0}
 
 abbrev μ-loop : tie.MeasureT-loop
-μ-loop portion₀ input₀ out₀ told₀ j₀ turns₀ t8 portion input out told j turns = turns
+μ-loop portion₀ held₀ bodies₀ numbers₀ floats₀ steps₀ out₀ told₀ j₀ turns₀ t8 portion held bodies numbers floats steps out told j turns = turns
 
 begin-requires : tie.Need-begin-requires Inv-loop μ-loop
 begin-requires c κs = search needs
