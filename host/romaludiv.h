@@ -1,7 +1,8 @@
-/* The call of the static library libromaludiv.a, for programs in C and C++ (C99 is enough).
+/* The calls of the static library libromaludiv.a, for programs in C and C++ (C99 is enough): romaludiv_call does a list of
+ * steps; romaludiv_begin, romaludiv_portion and romaludiv_end read a text that arrives in portions.
  *
- * What the function does is proved for every input: exactly what document 01, the exact rules, says. (In the proof there
- * is one NaN. That a NaN which no done step writes keeps its payload is tested.) This file is not proved. It says how the tables lie in memory, and what the caller owes, which nothing in the library can test. */
+ * What the functions do is proved for every input: exactly what document 01, the exact rules, says, and of portions what
+ * request E8 says. (In the proof of romaludiv_call there is one NaN. That a NaN which no done step writes keeps its payload is tested.) This file is not proved. It says how the tables lie in memory, and what the caller owes, which nothing in the library can test. */
 #ifndef ROMALUDIV_H
 #define ROMALUDIV_H
 
@@ -79,7 +80,7 @@
  *
  * An answer's branch is 0, but for a done kind 4: 1 both, 2 a only, 3 b only, 4 none, 5 previous kept, 6 degraded. */
 
-/* What the caller owes. If one of these does not hold, nothing is promised: neither the result, nor that the call
+/* What the caller of romaludiv_call owes. If one of these does not hold, nothing is promised: neither the result, nor that the call
  * keeps to its memory.
  *
  *  - Each pointer is valid for as many elements as its length says: bodies, floats and room to read and write, numbers
@@ -109,6 +110,68 @@ uint16_t romaludiv_call(
     size_t budget,
     size_t *done,
     size_t *refused);
+
+/* A text in portions.
+ *
+ * A night's text (document 01, "Text form") is read into four tables as it arrives, cut anywhere: the tables, the bad line
+ * and its number are the same for every way of cutting (proved). Rows and widths are those above, with one difference: bodies
+ * and floats hold the bits of floats, as the text does. memcpy makes floats of them for romaludiv_call; host/c/pipe.c shows
+ * it. The tables' lengths are the room: a line for which there is none is bad. Only romaludiv_call asks for whole rows.
+ *
+ * Between the calls the host keeps a reader, which is so many words and the bytes of the line that has not ended. Any words
+ * and bytes are a reader, so none of them does harm: */
+#define ROMALUDIV_READER_WORDS 10
+#define ROMALUDIV_MOST_IN_LINE 160 /* the longest good line, without its byte 10 */
+/* Where the words stand: */
+#define ROMALUDIV_READER_OVER 0    /* not 0: the end was announced */
+#define ROMALUDIV_READER_BAD 1     /* not 0: a line was bad */
+#define ROMALUDIV_READER_REASON 2  /* why it was; a word above 255 counts as 255 */
+#define ROMALUDIV_READER_NUMBER 3  /* the bad line's number, from 1; else that of the line that has not ended */
+#define ROMALUDIV_READER_PLACE 4   /* the place in the order of lines; a word above 6 counts as 6 */
+#define ROMALUDIV_READER_BODIES 5  /* how many elements of bodies are filled, from the front */
+#define ROMALUDIV_READER_NUMBERS 6 /* of numbers */
+#define ROMALUDIV_READER_FLOATS 7  /* of floats */
+#define ROMALUDIV_READER_STEPS 8   /* of steps */
+#define ROMALUDIV_READER_LEN 9     /* how many bytes line holds of the line that has not ended; of a bad one it says nothing */
+/* Places: 0 among the bodies; 1 to 4 in a contact, before its N, T, N, T; 5 after a contact; 6 among the steps.
+ *
+ * Reasons: 1 over 160 bytes, 2 no known letter, 3 letter out of order or a contact cut short by the end, 4 field count or
+ * field form, 5 table full. A bad line is told as soon as it is known, by its byte 10, its byte 161 or the end: look at
+ * ROMALUDIV_READER_BAD after each call. What the lines before it said stays in the tables; it and all that follows write
+ * to no element. After each portion and end the four counts are at most the tables' lengths, whatever they were before
+ * (proved); elements past them are as they were.
+ *
+ * What the caller owes, as above:
+ *
+ *  - words is valid for ROMALUDIV_READER_WORDS elements, line for ROMALUDIV_MOST_IN_LINE, text and the tables for as many as
+ *    their lengths say; to read, and to write where they are not const. None is null and each is aligned for its type, also
+ *    where the length is 0. Every element has been given a value before, the reader's too: any value, as 0.
+ *  - What is not const overlaps nothing else of the call. No other thread interferes. The stack has 2 KB left.
+ *  - For what E8 promises of a whole text: a reader goes on with the words and the line that the last call left, and with
+ *    the same tables of the same lengths. */
+
+/* A reader that has read nothing. */
+void romaludiv_begin(size_t *words);
+
+/* Takes a portion of any length, zero bytes too. After the announced end and after a bad line it changes no element, and what
+ * the reader says stays. */
+void romaludiv_portion(
+    size_t *words,
+    uint8_t *line,
+    const uint8_t *text, size_t text_len,
+    uint32_t *bodies, size_t bodies_len,
+    uint16_t *numbers, size_t numbers_len,
+    uint32_t *floats, size_t floats_len,
+    uint16_t *steps, size_t steps_len);
+
+/* Announces the end: the last line may lack its byte 10. A second announcement gives the same answer. */
+void romaludiv_end(
+    size_t *words,
+    const uint8_t *line,
+    uint32_t *bodies, size_t bodies_len,
+    uint16_t *numbers, size_t numbers_len,
+    uint32_t *floats, size_t floats_len,
+    uint16_t *steps, size_t steps_len);
 
 #ifdef __cplusplus
 }

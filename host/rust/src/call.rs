@@ -1,8 +1,9 @@
-//! The library's one function, on slices. Here alone is `unsafe`.
+//! The library's functions, on slices. Here alone is `unsafe`.
+use crate::{MOST_IN_LINE, READER_WORDS};
 use std::fmt;
 
 extern "C" {
-    // As host/romaludiv.h declares it. No linker compares the two; tests/declarations.rs does, as texts.
+    // As host/romaludiv.h declares them. No linker compares the two; tests/declarations.rs does, as texts.
     fn romaludiv_call(
         bodies: *mut f32,
         bodies_len: usize,
@@ -18,6 +19,36 @@ extern "C" {
         done: *mut usize,
         refused: *mut usize,
     ) -> u16;
+
+    fn romaludiv_begin(words: *mut usize);
+
+    fn romaludiv_portion(
+        words: *mut usize,
+        line: *mut u8,
+        text: *const u8,
+        text_len: usize,
+        bodies: *mut u32,
+        bodies_len: usize,
+        numbers: *mut u16,
+        numbers_len: usize,
+        floats: *mut u32,
+        floats_len: usize,
+        steps: *mut u16,
+        steps_len: usize,
+    );
+
+    fn romaludiv_end(
+        words: *mut usize,
+        line: *const u8,
+        bodies: *mut u32,
+        bodies_len: usize,
+        numbers: *mut u16,
+        numbers_len: usize,
+        floats: *mut u32,
+        floats_len: usize,
+        steps: *mut u16,
+        steps_len: usize,
+    );
 }
 
 /// A call that was not refused: how many steps were done, and how many of these were refused.
@@ -98,5 +129,62 @@ pub fn call(
         3 => Err(Refusal::KindAbove4),
         4 => Err(Refusal::Room),
         other => unreachable!("the library promises 0 to 4, and answered {other}"),
+    }
+}
+
+/// The words of a reader that has read nothing.
+pub(crate) fn begin() -> [usize; READER_WORDS] {
+    let mut words = [0; READER_WORDS];
+    // SAFETY: `words` is a variable of this function, of as many words as romaludiv.h says.
+    unsafe { romaludiv_begin(words.as_mut_ptr()) };
+    words
+}
+
+/// A portion, for any words and any line.
+pub(crate) fn portion(
+    words: &mut [usize; READER_WORDS],
+    line: &mut [u8; MOST_IN_LINE],
+    text: &[u8],
+    tables: &mut crate::Tables,
+) {
+    // SAFETY: as in `call`. `words` and `line` are as long as romaludiv.h says, and every value of theirs is allowed.
+    unsafe {
+        romaludiv_portion(
+            words.as_mut_ptr(),
+            line.as_mut_ptr(),
+            text.as_ptr(),
+            text.len(),
+            tables.bodies.as_mut_ptr(),
+            tables.bodies.len(),
+            tables.numbers.as_mut_ptr(),
+            tables.numbers.len(),
+            tables.floats.as_mut_ptr(),
+            tables.floats.len(),
+            tables.steps.as_mut_ptr(),
+            tables.steps.len(),
+        )
+    }
+}
+
+/// The announced end, for any words and any line.
+pub(crate) fn end(
+    words: &mut [usize; READER_WORDS],
+    line: &[u8; MOST_IN_LINE],
+    tables: &mut crate::Tables,
+) {
+    // SAFETY: as in `portion`.
+    unsafe {
+        romaludiv_end(
+            words.as_mut_ptr(),
+            line.as_ptr(),
+            tables.bodies.as_mut_ptr(),
+            tables.bodies.len(),
+            tables.numbers.as_mut_ptr(),
+            tables.numbers.len(),
+            tables.floats.as_mut_ptr(),
+            tables.floats.len(),
+            tables.steps.as_mut_ptr(),
+            tables.steps.len(),
+        )
     }
 }

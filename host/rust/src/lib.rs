@@ -1,8 +1,9 @@
 //! Safe calls of the proved contact solver in libromaludiv.a.
 //!
-//! [`call`] is the library's one function on slices, which lie as document 01, the exact rules, and `romaludiv.h` say.
+//! [`call`](call()) does a list of steps on slices, which lie as document 01, the exact rules, and `romaludiv.h` say.
 //! [`Night`] holds the tables and the list, made of [`Body`], [`Contact`] and [`Step`], for a program that has none of
-//! its own. What the function does is proved for every input; this package is not proved, but tested.
+//! its own. [`Reader`] reads a night's text that arrives in portions. What the library's functions do is proved for every
+//! input; this package is not proved, but tested.
 //!
 //! ```
 //! use romaludiv::*;
@@ -25,10 +26,12 @@
 mod call;
 mod contact;
 mod night;
+mod reader;
 
 pub use call::{call, Done, Refusal};
 pub use contact::{Body, Contact, NormalPart, Point, TangentPart, Vec2};
 pub use night::{Answer, Kind, Night, PointName, Report, Step};
+pub use reader::{BadLine, Reader, Rows, Tables};
 
 /// The body number that is the floor: it rests and is never written.
 pub const FLOOR: u16 = 65535;
@@ -44,3 +47,7 @@ pub const NUMBERS_WIDTH: usize = 3;
 pub const FLOATS_WIDTH: usize = 45;
 pub const STEP_WIDTH: usize = 2;
 pub const ANSWER_WIDTH: usize = 2;
+
+/// A reader is so many words, and the bytes of a line of at most so many.
+pub const READER_WORDS: usize = 10;
+pub const MOST_IN_LINE: usize = 160;

@@ -1,6 +1,6 @@
 //! The repository's example nights, read into stretches and worked by the call: what comes out, written in document
 //! 01's text form, is what the examples' .out files say. Their answers were worked out from the rules, without the
-//! library. Nights whose text is bad (X) are left out: reading text is not the library's part.
+//! library. Nights whose text is bad (X) are left out: the call reads no text; tests/portions.rs is about that.
 mod common;
 use common::{Lent, UNTOUCHED};
 use std::fmt::Write;

@@ -32,11 +32,13 @@ fn sizes_widths_and_kinds() {
         ("FRICTION_STEP", Kind::Friction as usize),
         ("RESTITUTION", Kind::Restitution as usize),
         ("PAIR", Kind::Pair as usize),
+        ("READER_WORDS", READER_WORDS),
+        ("MOST_IN_LINE", MOST_IN_LINE),
     ];
     for (name, number) in here {
         assert_eq!(said.get(name), Some(&number), "{name}");
     }
-    let places = 9 + 2 + 2 + 10;
+    let places = 9 + 2 + 2 + 10 + READER_WORDS;
     assert_eq!(said.len(), here.len() + places, "none is left out here");
 }
 
@@ -88,4 +90,46 @@ fn places_in_the_points() {
         assert_eq!(normal + said["CFM"] as f32, n.cfm);
         assert_eq!(normal + said["SEED"] as f32, n.seed);
     }
+}
+
+/// After these lines and the beginning of one more, each word is what the header's name says.
+#[test]
+fn places_of_a_reader_s_words() {
+    let said = header();
+    let (mut bodies, mut numbers, mut floats, mut steps) = ([0; 6], [0; 3], [0; 45], [0; 2]);
+    let mut tables = Tables {
+        bodies: &mut bodies,
+        numbers: &mut numbers,
+        floats: &mut floats,
+        steps: &mut steps,
+    };
+    let zeros = |many| "\t00000000".repeat(many);
+    let contact = format!("C\t0\t1\t2{}\nN{}\n", zeros(9), zeros(10));
+    let text = format!("B{0}\nB{0}\n{contact}T\t", zeros(3));
+    let mut reader = Reader::new();
+    assert!(reader.portion(text.as_bytes(), &mut tables).is_ok());
+    let word = |reader: &Reader, name: &str| reader.parts().0[said[name]];
+    let here = [
+        ("READER_OVER", 0),
+        ("READER_BAD", 0),
+        ("READER_REASON", 0),
+        ("READER_NUMBER", 5),
+        ("READER_PLACE", 2),
+        ("READER_BODIES", 6),
+        ("READER_NUMBERS", 3),
+        ("READER_FLOATS", 19),
+        ("READER_STEPS", 0),
+        ("READER_LEN", 2),
+    ];
+    for (name, number) in here {
+        assert_eq!(word(&reader, name), number, "{name}");
+    }
+    assert!(reader.end(&mut tables).is_err(), "a T without its fields");
+    for (name, number) in [("READER_OVER", 1), ("READER_BAD", 1), ("READER_REASON", 4)] {
+        assert_eq!(word(&reader, name), number, "{name}");
+    }
+    let mut reader = Reader::new();
+    assert!(reader.portion(b"S\t0\t1\n", &mut tables).is_ok());
+    assert_eq!(word(&reader, "READER_STEPS"), 2);
+    assert_eq!(word(&reader, "READER_PLACE"), 6);
 }
