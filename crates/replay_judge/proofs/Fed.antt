@@ -9,8 +9,7 @@ use Rattle.base_places.specs.Lengths.{largest, portionBytes, toldBytes}
 use Rattle.text_digits.proofs.Lengths.{exact}
 use Rattle.text_digits.proofs.Then.{nothing, then}
 use Rattle.text_fields.specs.Fields.{Free, until}
-use Rattle.text_fields.proofs.Runs.{front-free}
-use Rattle.text_read.proofs.Going.{line-whole}
+use Rattle.text_read.proofs.Going.{line-free, line-whole}
 use Rattle.replay_days.specs.Going.{Going, feeds, tells}
 use Rattle.replay_days.proofs.Portions.{days-few, feeds-append, tells-append, tells-short}
 use Rattle.replay_days.proofs.Runs.{line-fed, line-tells, longer, run-fed, run-tells}
@@ -20,16 +19,12 @@ use Rattle.replay_judge.specs.declared.Judge.{Judge}
 use Rattle.replay_judge.specs.declared.Turn.{Turn}
 use Rattle.replay_judge.specs.declared.Turned.{Turned}
 
--- the bytes of s from i on, up to the first byte 10
-pub run-free : (s : List ℕ) (i end : ℕ) → end ≡ i + until 10 (drop i s) → Free 10 (take (end - i) (drop i s))
-run-free s i end at-end = let e : end - i ≡ until 10 (drop i s) = omega arith in rw e (front-free 10 (drop i s))
-
 -- a line of the portion s from i on, which goes on to its end, or ends before it
 module _ (j : Judge) (input : Buffers) (out told : List ℕ) (at : ℕ) (s : List ℕ) (i end : ℕ) (h : i < length s)
     (at-end : end ≡ i + until 10 (drop i s)) {judge : Judge} {input1 : Buffers}
     (on : GoesOn j (take (end - i) (drop i s)) input out judge input1) where
   free : Free 10 (take (end - i) (drop i s))
-  free = run-free s i end at-end
+  free = line-free s i end at-end
 
   pub goes-on : at ≤ length told → end ≡ length s
       → TurnsTo j input out told at s i (record { judge = judge; at = at; next = end }) input1 out told
@@ -49,12 +44,12 @@ module _ (j : Judge) (input : Buffers) (out told : List ℕ) (at : ℕ) (s : Lis
     turns = record {
       tells = record {
         wrote = λ g st few.
-            rw (line-whole s i end at-end h p q, line-tells (take (end - i) (drop i s)) g free)
+            rw (line-whole s i end at-end (omega arith), line-tells (take (end - i) (drop i s)) g free)
             (d .tells .wrote (longer g (take (end - i) (drop i s))) (on g st) few);
         within = d .tells .within;
       };
       goes = λ g st few.
-          rw (line-whole s i end at-end h p q, line-fed (take (end - i) (drop i s)) g free)
+          rw (line-whole s i end at-end (omega arith), line-fed (take (end - i) (drop i s)) g free)
           (d .goes (longer g (take (end - i) (drop i s))) (on g st) few);
     };
     on = omega arith;

@@ -16,7 +16,7 @@ use Rattle.text_line.specs.Filled.{Cells, cells, nightOf, roomOf}
 use Rattle.text_line.specs.declared.State.{State}
 use Rattle.text_read.specs.Text.{Text, textOf}
 use Rattle.text_read.specs.Portions.{over}
-use Rattle.text_read.specs.Carried.{capped, cappedIn, readingIn, settledIn, side, textBy, textIn}
+use Rattle.text_read.specs.Carried.{ReadWhole, capped, cappedIn, readingIn, settledIn, side, textBy, textIn}
 use Rattle.text_read.specs.declared.Came.{Came}
 use Rattle.text_read.specs.declared.Came.the-variants.{Bad, Fine}
 use Rattle.text_read.specs.declared.Reader.{Reader}
@@ -106,5 +106,5 @@ module _ (k : Reader) (w : Cells) (o : List ℕ) {o′ : List ℕ} {number : ℕ
 
 -- a whole text
 pub text-answered : (input : List ℕ) (w w′ : Cells) {k : Reader} {o o′ : List ℕ} {number : ℕ} → roomOf w ≡ ofProgram
-    → readingIn k [] w′ ≡ cappedIn (over (textOf (roomOf w) input)) → AnsweredRead k w′ o o′ number → Answered input o o′ number
-text-answered input w w′ room e v = v .whole input [] (rw room at e)
+    → ReadWhole input w k w′ → AnsweredRead k w′ o o′ number → Answered input o o′ number
+text-answered input w w′ room e v = v .whole input [] (rw room at (e .is))

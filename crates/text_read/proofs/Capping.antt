@@ -85,13 +85,25 @@ closed-capped room x =
     rw (closed-last room (capped x), closed-last room x, whole-capped (lastLine room (capped x)), whole-capped (lastLine room x), last-capped room x)
 
 -- the same of a reading
+going-capped : (x y : Text) → capped x ≡ capped y → cappedIn (going x) ≡ cappedIn (going y)
+unfolding cappedIn
+going-capped x y e = ap going e
+
+over-capped : (x y : Text) → capped x ≡ capped y → cappedIn (over x) ≡ cappedIn (over y)
+unfolding cappedIn
+over-capped x y e = ap over e
+
+-- what capping a reading can come to, so that a wrong `taken` or `ended` fails where it is wrong
+ruleset capping = (going-capped, over-capped, feeds-capped, closed-capped, capped-twice)
+
 module _ (room : Counts) where
   pub taken-capped : (r : Reading) (s : List ℕ) → cappedIn (taken room (cappedIn r) s) ≡ cappedIn (taken room r s)
   unfolding cappedIn taken
-  taken-capped (going x) s = ap going (feeds-capped room x s)
-  taken-capped (over x) s = ap over (capped-twice x)
+  taken-capped (going x) [] = search capping
+  taken-capped (going x) (b ∷ s) = search capping
+  taken-capped (over x) s = search capping
 
   pub ended-capped : (r : Reading) → cappedIn (ended room (cappedIn r)) ≡ cappedIn (ended room r)
   unfolding cappedIn ended
-  ended-capped (going x) = ap over (closed-capped room x)
-  ended-capped (over x) = ap over (capped-twice x)
+  ended-capped (going x) = search capping
+  ended-capped (over x) = search capping

@@ -133,15 +133,16 @@ refused-stays : (room : Counts) (r : Reader) (line : List ℕ) (w : Cells) (s : 
 unfolding textIn
 refused-stays room r line w s e = stays-by room (r .came) (take (r .len) line) (r .number) (nightOf (r .st) w) s e
 
--- the line of s from i on, where it ends before s does
+-- the line of s from i on
 module _ (s : List ℕ) (i end : ℕ) (at-end : end ≡ i + until 10 (drop i s)) where
-  module _ (h : i < length s) (p : end ≡ length s → ⊥) (q : end ≤ length s) where
-    gone : end - i ≡ until 10 (drop i s)
-    gone = omega arith
+  gone : end - i ≡ until 10 (drop i s)
+  gone = omega arith
 
-    pub line-free : Free 10 (take (end - i) (drop i s))
-    line-free = rw gone (front-free 10 (drop i s))
+  pub line-free : Free 10 (take (end - i) (drop i s))
+  line-free = rw gone (front-free 10 (drop i s))
 
+  -- where it ends before s does
+  module _ (p : end < length s) where
     pub line-whole : take (end + 1 - i) (drop i s) ≡ take (end - i) (drop i s) ++ (10 ∷ [])
     line-whole =
         let inside : until 10 (drop i s) < length (drop i s) = rw length-drop (omega arith) in
@@ -154,16 +155,13 @@ module _ (s : List ℕ) (i end : ℕ) (at-end : end ≡ i + until 10 (drop i s))
     ends d = record { fed = rw line-whole d; on = omega arith; within = omega arith }
 
   -- or goes on to its end
-  module _ (h : i < length s) (p : end ≡ length s) where
-    gone-all : length s - i ≡ until 10 (drop i s)
-    gone-all = omega arith
-
+  module _ (p : end ≡ length s) where
     pub rest-free : Free 10 (take (length s - i) (drop i s))
-    rest-free = rw gone-all (front-free 10 (drop i s))
+    rest-free = rw p at line-free
 
-    pub goes : {k : Reader} {line : List ℕ} {w : Cells} {r : Reader} {line′ : List ℕ} {w′ : Cells}
+    pub goes : {k : Reader} {line : List ℕ} {w : Cells} {r : Reader} {line′ : List ℕ} {w′ : Cells} → i < length s
         → Fed k line w (take (length s - i) (drop i s)) r line′ w′ → Turned k line w s i (record { reader = r; at = end }) line′ w′
-    goes d = record { fed = rw p d; on = omega arith; within = omega arith }
+    goes h d = record { fed = rw p d; on = omega arith; within = omega arith }
 
 -- k was fed the first i bytes of s
 module _ (k : Reader) (line : List ℕ) (w : Cells) (s : List ℕ) where

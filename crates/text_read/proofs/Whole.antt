@@ -2,7 +2,7 @@
 use Prim.Native.Nat.{ℕ}
 use native.Mathlib.Omega.{arith}
 use mathlib.Core.Bool.{Bool, true, false}
-use mathlib.Core.List.{List, [], _++_}
+use mathlib.Core.List.{List, [], _∷_, _++_, append-nil}
 use mathlib.Core.Path.{_≡_, refl, sym, _∙_, ap}
 use lib.Dec.{eqb}
 use lib.ListN.{length, take}
@@ -13,13 +13,15 @@ use Rattle.text_line.specs.Night.{Night}
 use Rattle.text_line.specs.Lines.{LineCame, bad, good, inContact, readLine}
 use Rattle.text_line.specs.Filled.{Cells, nightOf, roomOf}
 use Rattle.text_read.specs.Text.{Text, closed, feeds, lineEnded, reading, refused, textOf, unread, wholeContacts}
-use Rattle.text_read.specs.Portions.{Reading, begun, ended, going, over, taken}
-use Rattle.text_read.specs.Carried.{Begins, Ends, Takes, capped, cappedIn, lastLine, readingIn, side, textBy, textIn}
+use Rattle.text_read.specs.Portions.{ended, going, over, taken, whole}
+use Rattle.text_read.specs.Carried.{Begins, Ends, ReadWhole, Takes, capped, cappedIn, lastLine, readingIn, side, textBy, textIn}
+use Rattle.text_read.specs.Calls.{Calls, CameTo}
 use Rattle.text_read.specs.declared.Came.{Came}
 use Rattle.text_read.specs.declared.Came.the-variants.{Bad, Fine}
 use Rattle.text_read.specs.declared.Reader.{Reader}
 use Rattle.text_read.proofs.Capping.{closed-last, ended-capped, taken-capped}
 use Rattle.text_read.proofs.Feeding.{feeds-append}
+use Rattle.text_read.proofs.Calls.{any-calls}
 
 -- a text without the line that has not ended
 abbrev emptied : Text → Text
@@ -74,24 +76,33 @@ over-by : (o : Bool) (x y : Text) → side o x ≡ over y → (o ≡ true) × (x
 over-by true x y e = (refl, cc)
 over-by false x y e = absurd (let z : _≡_ {A = ℕ} 0 1 = cc in omega arith)
 
-after-end : (room : Counts) (x : Text) (r : Reader) (line : List ℕ) (w : Cells) → readingIn r line w ≡ over (capped (closed room x))
+line-left : (room : Counts) (x : Text) (r : Reader) (line : List ℕ) (w : Cells) → readingIn r line w ≡ over (capped (closed room x))
     → readingIn r [] w ≡ over (capped (closed room x))
 unfolding readingIn
-after-end room x r line w e =
+line-left room x r line w e =
     let both = over-by (r .over) (textIn r line w) (capped (closed room x)) e in
     let same : textIn r [] w ≡ capped (closed room x) =
     text-empty r line w ∙ ap emptied (both .1) ∙ capped-empty (closed room x) ∙ ap capped (closed-empty room x) in
     ap (λ o. side o (textIn r [] w)) (both .0) ∙ ap over same
 
-module _ {k k₁ r : Reader} {line line₁ line₂ : List ℕ} {w w₁ w₂ : Cells} (s : List ℕ) where
-  came : Begins k → Takes k line w s k₁ line₁ w₁ → Ends k₁ line₁ w₁ r line₂ w₂ → readingIn r line₂ w₂ ≡ over (capped (textOf (roomOf w) s))
-  unfolding taken ended textOf begun cappedIn
-  came b d e =
-      e .is ∙ rw (d .kept, d .is, b line w) (ended-capped (roomOf w) (going (feeds (roomOf w) unread s)))
+one-portion : (s : List ℕ) → whole (s ∷ []) ≡ s
+unfolding whole
+one-portion s = append-nil s
 
-  pub read-whole : Begins k → Takes k line w s k₁ line₁ w₁ → Ends k₁ line₁ w₁ r line₂ w₂ → readingIn r [] w₂ ≡ cappedIn (over (textOf (roomOf w) s))
-  unfolding cappedIn textOf
-  read-whole b d e = after-end (roomOf w) (feeds (roomOf w) unread s) r line₂ w₂ (came b d e)
+read-by : (s : List ℕ) {r : Reader} {line₂ : List ℕ} {w w₂ : Cells} → CameTo (s ∷ []) w r line₂ w₂ → ReadWhole s w r w₂
+unfolding cappedIn textOf
+read-by s {r} {line₂} {w} {w₂} c = record {
+  is = line-left (roomOf w) (feeds (roomOf w) unread s) r line₂ w₂ (rw (one-portion s) at (c .is));
+  tables = rw (one-portion s) at (c .tables);
+}
+
+module _ {k k₁ r : Reader} {line line₁ line₂ : List ℕ} {w w₁ w₂ : Cells} (s : List ℕ) where
+  both-calls : Takes k line w s k₁ line₁ w₁ → Ends k₁ line₁ w₁ r line₂ w₂ → Calls (s ∷ []) k line w r line₂ w₂
+  unfolding Calls
+  both-calls d e = record { next = k₁; next-line = line₁; next-cells = w₁; call = d; after = e }
+
+  pub read-whole : Begins k → Takes k line w s k₁ line₁ w₁ → Ends k₁ line₁ w₁ r line₂ w₂ → ReadWhole s w r w₂
+  read-whole b d e = read-by s (any-calls (s ∷ []) k line w r line₂ w₂ b (both-calls d e))
 
 -- a reader that was fed y, and then s
 pub fed-more : {k k′ : Reader} {line line′ : List ℕ} {w w′ : Cells} (y s : List ℕ)

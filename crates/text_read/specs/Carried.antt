@@ -15,7 +15,7 @@ use Rattle.text_line.specs.declared.LineRead.{LineRead}
 use Rattle.text_line.specs.declared.LineRead.the-variants.{Bad as BadLine, Good}
 use Rattle.text_line.specs.declared.Place.the-variants.{Bodies}
 use Rattle.text_line.specs.declared.State.{State}
-use Rattle.text_read.specs.Text.{Text, feeds, lineEnded, reading, refused}
+use Rattle.text_read.specs.Text.{Text, feeds, lineEnded, reading, refused, textOf}
 use Rattle.text_read.specs.Portions.{Reading, begun, ended, going, over, taken}
 use Rattle.text_read.specs.declared.Came.{Came}
 use Rattle.text_read.specs.declared.Came.the-variants.{Bad, Fine}
@@ -85,6 +85,11 @@ Takes k line w s = Went k line w (λ r. taken (roomOf w) r s)
 -- the end was announced
 abbrev pub Ends : Reader → List ℕ → Cells → Reader → List ℕ → Cells → Type 0
 Ends k line w = Went k line w (ended (roomOf w))
+
+-- a whole text was read: what is carried after it, in which no line has not ended, and every cell of the tables
+pub record ReadWhole (input : List ℕ) (w : Cells) (r : Reader) (w′ : Cells) : Type 0 where
+  pub is : readingIn r [] w′ ≡ cappedIn (over (textOf (roomOf w) input))
+  pub tables : w′ ≡ laid w (said (textOf (roomOf w) input))
 
 -- What the functions of this crate hand to each other.
 

@@ -1,3 +1,4 @@
 pub mod Text
 pub mod Portions
 pub mod Carried
+pub mod Calls

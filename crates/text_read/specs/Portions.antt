@@ -3,7 +3,8 @@ use mathlib.Core.List.{List, [], _∷_, _++_}
 use mathlib.Core.Path.{_≡_}
 use Prim.Native.Nat.{ℕ}
 use Rattle.text_fields.specs.declared.Counts.{Counts}
-use Rattle.text_read.specs.Text.{Text, closed, feeds, textOf, unread}
+use Rattle.text_line.specs.Night.{Night}
+use Rattle.text_read.specs.Text.{Text, closed, feeds, refused, textOf, unread}
 
 -- "carries a state between them": what has been read, before the end is announced or after
 pub data Reading : Type 0 where
@@ -37,3 +38,9 @@ abbrev pub AnyCut : Type 0
 AnyCut =
     (room : Counts) (portions : List (List ℕ))
     → ended room (takenAll room begun portions) ≡ over (textOf room (whole portions))
+
+-- what comes after the first bad line does not matter: a program may answer at once. Both proved in proofs/Cutting.antt
+abbrev pub BadDecides : Type 0
+BadDecides =
+    (room : Counts) (s rest : List ℕ) (n reason : ℕ) (t : Night) → feeds room unread s ≡ refused n reason t
+    → textOf room (s ++ rest) ≡ textOf room s

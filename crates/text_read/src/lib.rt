@@ -15,10 +15,8 @@ ghost use Prim.Native.Nat.{_+_, _≤_, _<_, min};
 ghost use lib.ListN.{length};
 ghost use Rattle.text_fields.specs.Fields.{Free};
 ghost use Rattle.base_places.specs.Lengths.{mostInLine};
-ghost use Rattle.text_line.specs.Filled.{Appended, cells, roomOf};
-ghost use Rattle.text_read.specs.Text.{textOf};
-ghost use Rattle.text_read.specs.Portions.{over};
-ghost use Rattle.text_read.specs.Carried.{Closes, Ends, Fed, Sound, Takes, Turned, afterLine, cappedIn, closedReader, fresh, isBad, readingIn, refusedFor, settled, settledIn};
+ghost use Rattle.text_line.specs.Filled.{Appended, cells};
+ghost use Rattle.text_read.specs.Carried.{Closes, Ends, Fed, ReadWhole, Sound, Takes, Turned, afterLine, closedReader, fresh, isBad, refusedFor, settled, settledIn};
 
 // What ends a line.
 const LINE_END: u8 = 10;
@@ -367,8 +365,8 @@ pub fn read_text(
     floats: &mut [u32],
     steps: &mut [u16],
 ) -> Reader
-    ensures { λ r. ⌜ readingIn r [] (cells (now (bodies .exit)) (now (numbers .exit)) (now (floats .exit)) (now (steps .exit)))
-        ≡ cappedIn (over (textOf (roomOf (cells (now (bodies .entry)) (now (numbers .entry)) (now (floats .entry)) (now (steps .entry)))) (now (input .entry)))) ⌝ }
+    ensures { λ r. ⌜ ReadWhole (now (input .entry)) (cells (now (bodies .entry)) (now (numbers .entry)) (now (floats .entry)) (now (steps .entry))) r
+        (cells (now (bodies .exit)) (now (numbers .exit)) (now (floats .exit)) (now (steps .exit))) ⌝ }
 {
     let mut line = [0; MOST_IN_LINE];
     let k = portion(

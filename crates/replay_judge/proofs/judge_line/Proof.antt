@@ -1,5 +1,6 @@
 -- `replay_judge::judge_line` meets its contract. The line goes on to the portion's end, or ends before it. Assumes nothing.
-use Rattle.replay_judge.proofs.Fed.{ends, goes-on, run-free}
+use Rattle.text_read.proofs.Going.{line-free}
+use Rattle.replay_judge.proofs.Fed.{ends, goes-on}
 use borrow.Author.Needs.{needs}
 use Rattle.replay_judge.proofs.judge_line.Statement.{statement}
 use Rattle.replay_judge.proofs.judge_line.Tie as tie
@@ -17,7 +18,7 @@ part-go-on-end : tie.Need-part-go-on-end
 part-go-on-end c = search needs
 
 go-on-requires : tie.Need-go-on-requires
-go-on-requires c κs = run-free _ _ _ ((c .before .before .before .before .before .before .before .before .run-end .ensures .0))
+go-on-requires c κs = line-free _ _ _ ((c .before .before .before .before .before .before .before .before .run-end .ensures .0))
 
 returns : tie.Need-returns
 returns c = goes-on _ _ _ _ _ _ _ _ ((c .before .before .before .before .before .before .before .before .before .before .before .before .before .pre .1)) ((c .before .before .before .before .before .before .before .before .before .before .run-end .ensures .0)) ((c .before .go-on .ensures)) ((c .before .before .before .before .before .before .before .before .before .before .before .before .before .pre .0)) ((c .if1 .taken))

@@ -23,7 +23,8 @@ x-line-requires : tie.Need-x-line-requires
 x-line-requires c κs = search needs
 
 returns : tie.Need-returns
-returns c = search (fine-answered, needs)
+returns c =
+    fine-answered _ _ _ (search needs) (search needs) (c .before .before .before .before .before .before .within .ensures) (c .answer-state .ensures)
 
 returns-2 : tie.Need-returns-2
 returns-2 c = search (bad-answered, needs)

@@ -7,7 +7,7 @@ use Rattle.text_read.proofs.end.Statement.{statement}
 use Rattle.text_read.proofs.end.Tie as tie
 
 returns : tie.Need-returns
-returns c = end-again _ _ _ (omega arith) ((c .if1 .taken))
+returns c = end-again _ _ _ (omega arith) (search needs)
 
 is-bad-requires : tie.Need-is-bad-requires
 is-bad-requires c κs = search needs

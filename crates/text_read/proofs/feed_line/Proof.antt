@@ -1,4 +1,5 @@
 -- `text_read::feed_line` meets its contract. The line goes on to the end of the portion, or ends before it. Assumes nothing.
+use native.Mathlib.Omega.{arith}
 use Rattle.text_read.proofs.Going.{ends, goes, line-free, rest-free}
 use borrow.Author.Needs.{needs}
 use Rattle.text_read.proofs.feed_line.Statement.{statement}
@@ -17,7 +18,8 @@ part-go-on-end : tie.Need-part-go-on-end
 part-go-on-end c = search needs
 
 go-on-requires : tie.Need-go-on-requires
-go-on-requires c κs = ((c .before .before .before .before .before .before .before .before .before .before .before .before .before .before .pre .0), rest-free _ _ _ ((c .before .before .before .before .before .before .before .run-end .ensures .0)) ((c .before .before .before .before .before .before .before .before .before .before .before .before .before .before .pre .1)) ((c .before .before .before .before .before .before .if1 .taken)), (c .before .before .before .before .before .before .before .before .before .before .before .before .before .before .pre .2))
+go-on-requires c κs =
+    (search needs, rest-free _ _ _ (c .before .before .before .before .before .before .before .run-end .ensures .0) (omega arith), search needs)
 
 same-length : tie.Need-same-length
 same-length c = search needs
@@ -35,7 +37,9 @@ same-length-5 : tie.Need-same-length-5
 same-length-5 c = search needs
 
 returns : tie.Need-returns
-returns c = goes _ _ _ ((c .before .before .before .before .before .before .before .before .before .before .run-end .ensures .0)) ((c .before .before .before .before .before .before .before .before .before .before .before .before .before .before .before .before .before .pre .1)) ((c .before .before .before .before .before .before .before .before .before .if1 .taken)) ((c .before .before .go-on .ensures))
+returns c =
+    goes _ _ _ (c .before .before .before .before .before .before .before .before .before .before .run-end .ensures .0) (omega arith) (omega arith)
+    (search needs)
 
 add-next : tie.Need-add-next
 add-next c = search needs
@@ -50,7 +54,7 @@ part-end-line-end : tie.Need-part-end-line-end
 part-end-line-end c = search needs
 
 end-line-requires : tie.Need-end-line-requires
-end-line-requires c κs = ((c .before .before .before .before .before .before .before .before .before .before .before .before .before .before .pre .0), line-free _ _ _ ((c .before .before .before .before .before .before .before .run-end .ensures .0)) ((c .before .before .before .before .before .before .before .before .before .before .before .before .before .before .pre .1)) ((c .before .before .before .before .before .before .if1 .left)) ((c .before .before .before .before .before .before .before .run-end .ensures .2)), (c .before .before .before .before .before .before .before .before .before .before .before .before .before .before .pre .2))
+end-line-requires c κs = (search needs, search line-free, search needs)
 
 same-length-6 : tie.Need-same-length-6
 same-length-6 c = search needs
@@ -68,7 +72,9 @@ same-length-10 : tie.Need-same-length-10
 same-length-10 c = search needs
 
 returns-2 : tie.Need-returns-2
-returns-2 c = ends _ _ _ ((c .before .before .before .before .before .before .before .before .before .before .before .before .before .before .before .before .before .before .run-end .ensures .0)) ((c .before .before .before .before .before .before .before .before .before .before .before .before .before .before .before .before .before .before .before .before .before .before .before .before .before .pre .1)) ((c .before .before .before .before .before .before .before .before .before .before .before .before .before .before .before .before .before .if1 .left)) ((c .before .before .before .before .before .before .before .before .before .before .before .before .before .before .before .before .before .before .run-end .ensures .2)) ((c .before .before .before .before .before .before .before .before .before .before .end-line .ensures))
+returns-2 c =
+    ends _ _ _ (c .before .before .before .before .before .before .before .before .before .before .before .before .before .before .before .before .before .before .run-end .ensures .0)
+    (omega arith) (search needs)
 
 pub feed-line-spec : {M : Type 1} → statement M
 feed-line-spec =
