@@ -15,7 +15,7 @@ import texts
 from judge import run
 from replays import lines_of, replay
 
-# What a buffer that holds as much of an input as decides may take, and the bytes about its end.
+# The longest good text has 33,152 bytes, and 161 bytes after it show that a further line is bad: about there a reader may go wrong.
 DECIDES = 33313
 ABOUT_THE_END = range(DECIDES - 3, DECIDES + 5)
 # No output is longer; what is recorded may be.

@@ -149,7 +149,7 @@ static int at_random(const struct text *x, size_t most, const struct reading *wh
     return same(&r, whole);
 }
 
-/* What a reading came to, in the lines that host/portions makes of judge.py's. */
+/* What a reading came to, in the lines that fuzz/readings.py makes of judge.py's. */
 static int write_down(const struct text *x, const struct reading *r) {
     static char name[4096];
     const size_t *w = r->words;

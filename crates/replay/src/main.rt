@@ -139,6 +139,42 @@ fn replay_end(
 // Portion after portion, each turn with what the one before left; then the end. A proved loop has to end, and nothing
 // says that a file does: so the loop counts down from a number that no run uses up. With 2^51 portions of 4,096 bytes a
 // day's number stays below 2^63.
+fn replay_all(
+    portion: &mut [u8; PORTION],
+    held: &mut [u8; MOST_IN_LINE],
+    bodies: &mut [u32; PROGRAM_BODIES * BODY_WIDTH],
+    numbers: &mut [u16; PROGRAM_CONTACTS * NUMBERS_WIDTH],
+    floats: &mut [u32; PROGRAM_CONTACTS * FLOATS_WIDTH],
+    steps: &mut [u16; PROGRAM_STEPS * STEP_WIDTH],
+    out: &mut [u8; LONGEST_OUTPUT],
+    told: &mut [u8; TOLD],
+) {
+    let mut j = begin();
+    let mut turns: u64 = 2251799813685248;
+    while 0 < turns {
+        let on = replay_some(
+            j,
+            &mut *portion,
+            &mut *held,
+            &mut *bodies,
+            &mut *numbers,
+            &mut *floats,
+            &mut *steps,
+            &mut *out,
+            &mut *told,
+        );
+        j = on.judge;
+        if !on.more {
+            if on.well {
+                replay_end(j, held, bodies, numbers, floats, steps, out, told);
+            }
+            return;
+        }
+        turns -= 1;
+    }
+    io::write_all(STDERR_FILENO, b"replay: the file is too long\n");
+}
+
 fn main() {
     let mut portion = [0; PORTION];
     let mut held = [0; MOST_IN_LINE];
@@ -148,37 +184,14 @@ fn main() {
     let mut steps = [0; PROGRAM_STEPS * STEP_WIDTH];
     let mut out = [0; LONGEST_OUTPUT];
     let mut told = [0; TOLD];
-    let mut j = begin();
-    let mut turns: u64 = 2251799813685248;
-    while 0 < turns {
-        let on = replay_some(
-            j,
-            &mut portion,
-            &mut held,
-            &mut bodies,
-            &mut numbers,
-            &mut floats,
-            &mut steps,
-            &mut out,
-            &mut told,
-        );
-        j = on.judge;
-        if !on.more {
-            if on.well {
-                replay_end(
-                    j,
-                    &mut held,
-                    &mut bodies,
-                    &mut numbers,
-                    &mut floats,
-                    &mut steps,
-                    &mut out,
-                    &mut told,
-                );
-            }
-            return;
-        }
-        turns -= 1;
-    }
-    io::write_all(STDERR_FILENO, b"replay: the file is too long\n");
+    replay_all(
+        &mut portion,
+        &mut held,
+        &mut bodies,
+        &mut numbers,
+        &mut floats,
+        &mut steps,
+        &mut out,
+        &mut told,
+    );
 }

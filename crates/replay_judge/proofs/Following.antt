@@ -2,12 +2,10 @@
 use Prim.Native.Nat.{ℕ, _+_, min}
 use native.Mathlib.Omega.{arith}
 use borrow.Author.Tests.{ne-eqb}
-use mathlib.Core.Bool.{Bool, true, false, not}
+use mathlib.Core.Bool.{Bool, true, false}
 use mathlib.Core.List.{List, [], _∷_, _++_, append-assoc, append-nil}
-use mathlib.Core.Path.{_≡_, refl, sym, _∙_, ap}
-use lib.Dec.{eqb}
+use mathlib.Core.Path.{_≡_, refl, sym, _∙_}
 use lib.ListN.{length, length-append}
-use Rattle.base_words.proofs.Pick.{never}
 use Rattle.base_places.specs.Lengths.{largest}
 use Rattle.text_fields.specs.declared.Counts.{Counts}
 use Rattle.text_line.specs.Filled.{Cells, roomOf}
@@ -16,10 +14,10 @@ use Rattle.text_read.specs.Portions.{begun, going}
 use Rattle.text_read.specs.Carried.{Takes, capped, cappedIn, readingIn}
 use Rattle.text_read.specs.declared.Reader.{Reader}
 use Rattle.text_read.proofs.Going.{begins}
-use Rattle.text_read.proofs.Whole.{fed-more}
+use Rattle.text_read.proofs.Whole.{begun-fed, fed-more}
 use Rattle.replay_days.specs.Judged.{onlyD, same}
-use Rattle.replay_days.specs.Going.{partAfter, reading}
-use Rattle.replay_compare.specs.Spots.{holdsOnly, shapeOf}
+use Rattle.replay_days.specs.Going.{partAfter}
+use Rattle.replay_compare.specs.Spots.{holdsOnly}
 use Rattle.replay_compare.specs.declared.LineSoFar.{LineSoFar}
 use Rattle.replay_judge.specs.Carried.{Buffers, unfed}
 use Rattle.replay_judge.specs.Stands.{EndsInput, FeedsInput, Follows, StandsPart, heldBack}
@@ -43,13 +41,9 @@ only-back : (l : List ℕ) → onlyD l ≡ true → heldBack l ≡ []
 only-back l e = rw e
 
 -- nothing has been read
-unfed-by : (room : Counts) → begun ≡ cappedIn (going (feeds room unread []))
-unfolding cappedIn capped begun unread feeds
-unfed-by room = let e : min 1 largest ≡ 1 = omega arith in rw e
-
 pub unfed-follows : (input : Buffers) → Follows unfed input [] []
 unfed-follows input = record {
-  carried = begins (input .line) (input .tables) ∙ unfed-by (roomOf (input .tables)) ∙ rw none-back;
+  carried = begins (input .line) (input .tables) ∙ begun-fed (roomOf (input .tables)) ∙ rw none-back;
   any = refl;
 }
 

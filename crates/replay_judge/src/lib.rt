@@ -52,7 +52,7 @@ pub enum Part {
     Differing,
 }
 
-// What is carried from byte to byte.
+// What is carried from one line, or part of one, to the next.
 pub struct Judge {
     pub day: usize,
     pub line: LineSoFar,

@@ -108,8 +108,41 @@ fn answer(
     write_out(&*out, n)
 }
 
-// Portion after portion, each turn with what the one before left; then the end. A proved loop has to end, and nothing
-// says that an input does: so the loop counts down from a number that no run uses up.
+// Portion after portion, each turn with what the one before left; then the end. A proved loop has to end, so this one counts
+// down. It never comes to 0: a text has at most 641 lines, each of at most 160 bytes, and ends before or is bad.
+fn answer_all(
+    portion: &mut [u8; PORTION],
+    line: &mut [u8; MOST_IN_LINE],
+    bodies: &mut [u32; PROGRAM_BODIES * BODY_WIDTH],
+    numbers: &mut [u16; PROGRAM_CONTACTS * NUMBERS_WIDTH],
+    floats: &mut [u32; PROGRAM_CONTACTS * FLOATS_WIDTH],
+    steps: &mut [u16; PROGRAM_STEPS * STEP_WIDTH],
+    out: &mut [u8; LONGEST_OUTPUT],
+) {
+    let mut k = text_read::begin();
+    let mut turns: u64 = 2251799813685248;
+    while 0 < turns {
+        let on = read_some(
+            k,
+            &mut *portion,
+            &mut *line,
+            &mut *bodies,
+            &mut *numbers,
+            &mut *floats,
+            &mut *steps,
+        );
+        k = on.reader;
+        if !on.more {
+            if on.well {
+                answer(k, &*line, bodies, numbers, floats, steps, out);
+            }
+            return;
+        }
+        turns -= 1;
+    }
+    io::write_all(STDERR_FILENO, b"sheet: the input is too long\n");
+}
+
 fn main() {
     let mut portion = [0; PORTION];
     let mut line = [0; MOST_IN_LINE];
@@ -118,34 +151,13 @@ fn main() {
     let mut floats = [0; PROGRAM_CONTACTS * FLOATS_WIDTH];
     let mut steps = [0; PROGRAM_STEPS * STEP_WIDTH];
     let mut out = [0; LONGEST_OUTPUT];
-    let mut k = text_read::begin();
-    let mut turns: u64 = 2251799813685248;
-    while 0 < turns {
-        let on = read_some(
-            k,
-            &mut portion,
-            &mut line,
-            &mut bodies,
-            &mut numbers,
-            &mut floats,
-            &mut steps,
-        );
-        k = on.reader;
-        if !on.more {
-            if on.well {
-                answer(
-                    k,
-                    &line,
-                    &mut bodies,
-                    &mut numbers,
-                    &mut floats,
-                    &mut steps,
-                    &mut out,
-                );
-            }
-            return;
-        }
-        turns -= 1;
-    }
-    io::write_all(STDERR_FILENO, b"sheet: the input is too long\n");
+    answer_all(
+        &mut portion,
+        &mut line,
+        &mut bodies,
+        &mut numbers,
+        &mut floats,
+        &mut steps,
+        &mut out,
+    );
 }

@@ -18,7 +18,6 @@ use Rattle.call.specs.declared.Report.{Report}
 use Rattle.text_digits.specs.Wrote.{Wrote}
 use Rattle.text_digits.proofs.Then.{then}
 use Rattle.text_line.specs.Filled.{cells, nightOf}
-use Rattle.text_line.specs.Night.{Night}
 use Rattle.text_line.specs.declared.State.{State}
 use Rattle.text_write.specs.Lines.{eLine, rLine}
 use Rattle.text_rows.specs.Tables.{listing}

@@ -1,12 +1,7 @@
 // A line of the text form: whether its letter is known and in order, its fields are well formed and its tables have
 // room, and what it adds to them.
-use base_places::BODY_WIDTH;
 use base_places::FLOATS_WIDTH;
-use base_places::HEAD_WIDTH;
 use base_places::NORMAL_WIDTH;
-use base_places::NUMBERS_WIDTH;
-use base_places::STEP_WIDTH;
-use base_places::TANGENT_WIDTH;
 use text_fields::Letter;
 use text_fields::Row;
 ghost use mathlib.Core.Path.{_≡_};

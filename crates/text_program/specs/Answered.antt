@@ -31,7 +31,7 @@ pub record AnsweredRead (k : Reader) (w : Cells) (o o′ : List ℕ) (number : �
   pub wrote : Wrote o 0 (outputOf (textIn k [] w)) o′ number
   -- and where it is what a whole input came to, its output is told
   pub whole : (input line : List ℕ) → readingIn k line w ≡ cappedIn (over (textOf ofProgram input)) → Answered input o o′ number
-  -- no more is told than there is
+  -- no more is told than the buffer holds
   pub fits : number ≤ longestOutput
 
 -- tables as long as the program's, filled as far as a state says

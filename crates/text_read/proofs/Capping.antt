@@ -1,5 +1,5 @@
 -- A line's number that goes no further than a machine word: it may be capped before bytes are fed or after. Assumes nothing.
-use Prim.Native.Nat.{ℕ, _+_, _≤_, min}
+use Prim.Native.Nat.{ℕ, _+_, min}
 use native.Mathlib.Omega.{arith}
 use mathlib.Core.Bool.{Bool, true, false}
 use mathlib.Core.List.{List, [], _∷_, _++_}
@@ -13,7 +13,8 @@ use Rattle.text_line.specs.Night.{Night}
 use Rattle.text_line.specs.Lines.{LineCame, bad, good, inContact, readLine}
 use Rattle.text_read.specs.Text.{Text, closed, feed, feeds, lineEnded, reading, refused, wholeContacts}
 use Rattle.text_read.specs.Portions.{Reading, ended, going, over, taken}
-use Rattle.text_read.specs.Carried.{capped, cappedIn, lastLine}
+use Rattle.text_read.specs.Carried.{capped, cappedIn}
+use Rattle.text_read.specs.Handed.{lastLine}
 
 twice : (n : ℕ) → min (min n largest) largest ≡ min n largest
 twice n = omega arith

@@ -2,8 +2,8 @@
 use Prim.Native.Nat.{ℕ, _+_, _≤_, min}
 use native.Mathlib.Omega.{arith}
 use mathlib.Core.Bool.{Bool, true, false}
-use mathlib.Core.List.{List, []}
-use mathlib.Core.Path.{_≡_, refl, sym, _∙_, ap}
+use mathlib.Core.List.{List}
+use mathlib.Core.Path.{_≡_, refl}
 use lib.ListN.{length, take}
 use Rattle.base_words.proofs.Pick.{never}
 use Rattle.base_places.specs.Lengths.{largest, mostInLine, oneMore}
@@ -13,9 +13,9 @@ use Rattle.text_line.specs.Filled.{Cells, Grown, LeftBy, ReadLine, Sane, cameOf
 use Rattle.text_line.specs.declared.LineRead.{LineRead}
 use Rattle.text_line.specs.declared.LineRead.the-variants.{Bad as BadLine, Good}
 use Rattle.text_line.specs.declared.State.{State}
-use Rattle.text_read.specs.Text.{Text, lineEnded, reading, refused}
-use Rattle.text_read.specs.Portions.{Reading}
-use Rattle.text_read.specs.Carried.{Sound, afterLine, capped, isBad, readingIn, refusedFor, said, saidIn, settled, settledIn, side, textBy, textIn}
+use Rattle.text_read.specs.Text.{lineEnded, reading}
+use Rattle.text_read.specs.Carried.{capped, isBad, readingIn, said, saidIn, settledIn, side, textBy, textIn}
+use Rattle.text_read.specs.Handed.{Sound, afterLine, refusedFor, settled}
 use Rattle.text_read.specs.declared.Came.{Came}
 use Rattle.text_read.specs.declared.Came.the-variants.{Bad, Fine}
 use Rattle.text_read.specs.declared.Reader.{Reader}

@@ -1,5 +1,5 @@
 -- However a text is cut into portions, it comes to what the whole text comes to. Assumes nothing.
-use mathlib.Core.List.{List, [], _∷_, _++_}
+use mathlib.Core.List.{List, [], _∷_}
 use mathlib.Core.Path.{_≡_, refl, _∙_, ap, sym}
 use Prim.Native.Nat.{ℕ}
 use Rattle.text_fields.specs.declared.Counts.{Counts}

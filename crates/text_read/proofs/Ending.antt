@@ -3,7 +3,7 @@ use Prim.Native.Nat.{ℕ, _≤_}
 use native.Mathlib.Omega.{arith}
 use borrow.Author.Tests.{eq-eqb, ne-eqb}
 use mathlib.Core.Bool.{Bool, true, false, _&&_, not}
-use mathlib.Core.List.{List, [], _∷_, _++_}
+use mathlib.Core.List.{List, []}
 use mathlib.Core.Path.{_≡_, refl, sym, _∙_, ap}
 use lib.ListN.{length, take}
 use lib.Seq.{length-take-le}
@@ -13,35 +13,16 @@ use Rattle.base_places.specs.Lengths.{largest, mostInLine}
 use Rattle.text_fields.specs.declared.Counts.{Counts}
 use Rattle.text_line.specs.Night.{Night}
 use Rattle.text_line.specs.Lines.{inContact, readLine}
-use Rattle.text_line.specs.Filled.{Cells, Grown, ReadLine, nightOf, roomOf}
+use Rattle.text_line.specs.Filled.{Cells, ReadLine, nightOf, roomOf}
 use Rattle.text_line.specs.declared.LineRead.{LineRead}
-use Rattle.text_line.specs.declared.State.{State}
-use Rattle.text_read.specs.Text.{Text, closed, feeds, lineEnded, reading, refused, textOf, unread, wholeContacts}
-use Rattle.text_read.specs.Portions.{begun, ended, going, over, taken}
-use Rattle.text_read.specs.Carried.{
-  Closes,
-  Ends,
-  Sound,
-  Went,
-  afterLine,
-  capped,
-  cappedIn,
-  closedReader,
-  cutShort,
-  isBad,
-  laid,
-  lastLine,
-  readingIn,
-  saidIn,
-  settled,
-  side,
-  textBy,
-  textIn,
-}
+use Rattle.text_read.specs.Text.{closed, lineEnded, reading, refused, wholeContacts}
+use Rattle.text_read.specs.Portions.{ended, over}
+use Rattle.text_read.specs.Carried.{Ends, capped, cappedIn, isBad, laid, readingIn, saidIn, textBy, textIn}
+use Rattle.text_read.specs.Handed.{Closes, Sound, afterLine, closedReader, cutShort, lastLine, settled}
 use Rattle.text_read.specs.declared.Came.{Came}
 use Rattle.text_read.specs.declared.Came.the-variants.{Bad, Fine}
 use Rattle.text_read.specs.declared.Reader.{Reader}
-use Rattle.text_read.proofs.Capping.{closed-last, last-capped, whole-capped}
+use Rattle.text_read.proofs.Capping.{closed-last, whole-capped}
 use Rattle.text_read.proofs.Tables.{grown-laid, grown-room, grown-same, same-laid}
 use Rattle.text_read.proofs.Carrying.{after-grown, after-is, fine-of, low, said-in, settled-text, text-fine}
 

@@ -15,35 +15,17 @@ use Rattle.text_fields.proofs.Runs.{front-free, stops}
 use Rattle.text_line.specs.Night.{Night, blank}
 use Rattle.text_line.specs.Filled.{Appended, Cells, Grown, ReadLine, nightOf, roomOf}
 use Rattle.text_line.specs.declared.LineRead.{LineRead}
-use Rattle.text_line.specs.declared.State.{State}
-use Rattle.text_read.specs.Text.{Text, feeds, reading, refused, unread}
+use Rattle.text_read.specs.Text.{feeds, reading, refused, unread}
 use Rattle.text_read.specs.Portions.{begun, going, over, taken}
-use Rattle.text_read.specs.Carried.{
-  Begins,
-  Fed,
-  Sound,
-  Takes,
-  Turned,
-  afterLine,
-  capped,
-  cappedIn,
-  fresh,
-  isBad,
-  laid,
-  readingIn,
-  refusedFor,
-  settled,
-  side,
-  textBy,
-  textIn,
-}
+use Rattle.text_read.specs.Carried.{Begins, Takes, capped, cappedIn, fresh, isBad, laid, readingIn, textBy, textIn}
+use Rattle.text_read.specs.Handed.{Fed, Sound, Turned, afterLine, refusedFor, settled}
 use Rattle.text_read.specs.declared.Came.{Came}
 use Rattle.text_read.specs.declared.Came.the-variants.{Bad, Fine}
 use Rattle.text_read.specs.declared.Reader.{Reader}
 use Rattle.text_read.specs.declared.Turn.{Turn}
 use Rattle.text_read.proofs.Feeding.{feeds-append, feeds-none, feeds-refused, line-ends, line-over, run-on, run-over}
 use Rattle.text_read.proofs.Capping.{feeds-capped}
-use Rattle.text_read.proofs.Tables.{grown-laid, grown-more, grown-room, grown-same, same-laid, settled-sane}
+use Rattle.text_read.proofs.Tables.{grown-laid, grown-more, grown-room, grown-same, same-laid}
 use Rattle.text_read.proofs.Carrying.{after-grown, after-is, after-over, after-sound, fine-of, low, said-in, settled-text, text-fine}
 
 refused-text : (k : Reader) (line : List ℕ) (w : Cells) (reason : ℕ)

@@ -2,11 +2,10 @@
 use Prim.Native.Nat.{ℕ, _+_, _-_, _≤_, _<_, min}
 use native.Mathlib.Decide.{decLt}
 use native.Mathlib.Omega.{arith}
-use mathlib.Core.List.{List, _++_, append-nil}
-use mathlib.Core.Path.{_≡_, refl, sym, _∙_, ap}
-use lib.ListN.{drop, length, length-take, take, take-append-drop}
+use mathlib.Core.List.{List, append-nil}
+use mathlib.Core.Path.{_≡_, refl, sym, _∙_}
+use lib.ListN.{drop, length, take, take-append-drop}
 use lib.Seq.{drop-drop, length-take-le, take-all, take-length, drop-length}
-use Rattle.text_line.specs.Night.{Night}
 use Rattle.text_line.specs.Filled.{Cells, Grown, GrownBy, Sane, cells, nightOf, roomOf}
 use Rattle.text_line.specs.declared.State.{State}
 use Rattle.text_read.specs.Carried.{laid, onFront, settledIn}

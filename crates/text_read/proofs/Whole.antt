@@ -1,20 +1,22 @@
 -- A whole text: one portion, and the end. No line is left open by the end, so none is looked at in what is carried after it. Assumes nothing.
-use Prim.Native.Nat.{ℕ}
+use Prim.Native.Nat.{ℕ, min}
 use native.Mathlib.Omega.{arith}
 use mathlib.Core.Bool.{Bool, true, false}
 use mathlib.Core.List.{List, [], _∷_, _++_, append-nil}
-use mathlib.Core.Path.{_≡_, refl, sym, _∙_, ap}
+use mathlib.Core.Path.{_≡_, refl, _∙_, ap}
 use lib.Dec.{eqb}
 use lib.ListN.{length, take}
 use lib.Seq.{take-nil}
 use Rattle.base_words.specs.Choice.{if_then_else_}
+use Rattle.base_places.specs.Lengths.{largest}
 use Rattle.text_fields.specs.declared.Counts.{Counts}
 use Rattle.text_line.specs.Night.{Night}
 use Rattle.text_line.specs.Lines.{LineCame, bad, good, inContact, readLine}
 use Rattle.text_line.specs.Filled.{Cells, nightOf, roomOf}
 use Rattle.text_read.specs.Text.{Text, closed, feeds, lineEnded, reading, refused, textOf, unread, wholeContacts}
-use Rattle.text_read.specs.Portions.{ended, going, over, taken, whole}
-use Rattle.text_read.specs.Carried.{Begins, Ends, ReadWhole, Takes, capped, cappedIn, lastLine, readingIn, side, textBy, textIn}
+use Rattle.text_read.specs.Portions.{begun, ended, going, over, taken, whole}
+use Rattle.text_read.specs.Carried.{Begins, Ends, ReadWhole, Takes, capped, cappedIn, readingIn, side, textBy, textIn}
+use Rattle.text_read.specs.Handed.{lastLine}
 use Rattle.text_read.specs.Calls.{Calls, CameTo}
 use Rattle.text_read.specs.declared.Came.{Came}
 use Rattle.text_read.specs.declared.Came.the-variants.{Bad, Fine}
@@ -104,7 +106,12 @@ module _ {k k₁ r : Reader} {line line₁ line₂ : List ℕ} {w w₁ w₂ : Ce
   pub read-whole : Begins k → Takes k line w s k₁ line₁ w₁ → Ends k₁ line₁ w₁ r line₂ w₂ → ReadWhole s w r w₂
   read-whole b d e = read-by s (any-calls (s ∷ []) k line w r line₂ w₂ b (both-calls d e))
 
--- a reader that was fed y, and then s
+-- a reader that was fed nothing
+pub begun-fed : (room : Counts) → begun ≡ cappedIn (going (feeds room unread []))
+unfolding cappedIn capped begun unread feeds
+begun-fed room = let e : min 1 largest ≡ 1 = omega arith in rw e
+
+-- one that was fed y, and then s
 pub fed-more : {k k′ : Reader} {line line′ : List ℕ} {w w′ : Cells} (y s : List ℕ)
     → readingIn k line w ≡ cappedIn (going (feeds (roomOf w) unread y)) → Takes k line w s k′ line′ w′
     → readingIn k′ line′ w′ ≡ cappedIn (going (feeds (roomOf w′) unread (y ++ s)))

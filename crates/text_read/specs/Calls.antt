@@ -67,7 +67,9 @@ AfterBad =
     → ((s : List ℕ) → Takes k line w s k′ line′ w′ → Stays (going (refused n reason t)) w k′ line′ w′)
     × (Ends k line w k′ line′ w′ → Stays (over (refused n reason t)) w k′ line′ w′)
 
--- the bad line itself, wherever the text is cut: what the lines before it said is all that was laid over the tables, whatever comes after it
+-- the bad line itself, wherever the text is cut: what the lines before it said is all that was laid over the tables, whatever comes after it. Here
+-- of a line that byte 10 ends; of one that is too long, of a last line without it and of a contact that the end cuts short `AnyCalls` says it, since
+-- `refused` has what the lines before said
 pub record Refused (n reason : ℕ) (t : Night) (w : Cells) (r : Reader) (line′ : List ℕ) (w′ : Cells) : Type 0 where
   pub is : readingIn r line′ w′ ≡ cappedIn (over (refused n reason t))
   pub tables : w′ ≡ laid w t

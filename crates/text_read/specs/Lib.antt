@@ -1,4 +1,5 @@
 pub mod Text
 pub mod Portions
 pub mod Carried
+pub mod Handed
 pub mod Calls

@@ -16,7 +16,8 @@ ghost use lib.ListN.{length};
 ghost use Rattle.text_fields.specs.Fields.{Free};
 ghost use Rattle.base_places.specs.Lengths.{mostInLine};
 ghost use Rattle.text_line.specs.Filled.{Appended, cells};
-ghost use Rattle.text_read.specs.Carried.{Closes, Ends, Fed, ReadWhole, Sound, Takes, Turned, afterLine, closedReader, fresh, isBad, refusedFor, settled, settledIn};
+ghost use Rattle.text_read.specs.Carried.{Ends, ReadWhole, Takes, fresh, isBad, settledIn};
+ghost use Rattle.text_read.specs.Handed.{Closes, Fed, Sound, Turned, afterLine, closedReader, refusedFor, settled};
 
 // What ends a line.
 const LINE_END: u8 = 10;

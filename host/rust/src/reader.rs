@@ -55,7 +55,7 @@ const FLOATS: usize = 7;
 const STEPS: usize = 8;
 
 /// Reads a text that arrives in portions of any length, cut anywhere: tables, bad line and line number are the same for every
-/// way of cutting. It is told the same tables each time.
+/// way of cutting. It is lent the same tables each time.
 ///
 /// [`portion`](Reader::portion) and [`end`](Reader::end) answer how many rows have been read, or the first bad line, as soon as
 /// it is known. What the lines before it said stays in the tables; it and all that follows change nothing. Nor does a portion

@@ -1,14 +1,14 @@
--- `replay::main` meets its contract. The measure is the number of turns that are left; nothing has to hold from turn to turn. Assumes nothing.
+-- `replay::replay_all` meets its contract. The measure is the number of turns that are left; nothing has to hold from turn to turn. Assumes nothing.
 use native.Mathlib.Omega.{arith}
 use borrow.Author.Needs.{needs}
-use Rattle.replay.proofs.main.Statement.{statement}
-use Rattle.replay.proofs.main.Tie as tie
+use Rattle.replay.proofs.replay_all.Statement.{statement}
+use Rattle.replay.proofs.replay_all.Tie as tie
 
 abbrev Inv-loop : tie.InvT-loop
-Inv-loop portion₀ held₀ bodies₀ numbers₀ floats₀ steps₀ out₀ told₀ j₀ turns₀ t8 portion held bodies numbers floats steps out told j turns = Unit {0}
+Inv-loop portion₀ held₀ bodies₀ numbers₀ floats₀ steps₀ out₀ told₀ j₀ turns₀ t12 portion held bodies numbers floats steps out told j turns = Unit {0}
 
 abbrev μ-loop : tie.MeasureT-loop
-μ-loop portion₀ held₀ bodies₀ numbers₀ floats₀ steps₀ out₀ told₀ j₀ turns₀ t8 portion held bodies numbers floats steps out told j turns = turns
+μ-loop portion₀ held₀ bodies₀ numbers₀ floats₀ steps₀ out₀ told₀ j₀ turns₀ t12 portion held bodies numbers floats steps out told j turns = turns
 
 begin-requires : tie.Need-begin-requires Inv-loop μ-loop
 begin-requires c κs = search needs
@@ -46,8 +46,8 @@ write-all-requires c κs = search needs
 returns-3 : tie.Need-returns-3 Inv-loop μ-loop
 returns-3 c = tt
 
-pub main-spec : {M : Type 1} → statement M
-main-spec =
+pub replay-all-spec : {M : Type 1} → statement M
+replay-all-spec =
     tie.close
     (tie.spec
     Inv-loop

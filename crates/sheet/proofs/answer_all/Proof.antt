@@ -1,16 +1,14 @@
--- `sheet::main` meets its contract. The measure is the number of turns that are left; nothing has to hold from turn to turn. Assumes nothing.
+-- `sheet::answer_all` meets its contract. The measure is the number of turns that are left; nothing has to hold from turn to turn. Assumes nothing.
 use native.Mathlib.Omega.{arith}
 use borrow.Author.Needs.{needs}
-use Rattle.sheet.proofs.main.Statement.{statement}
-use Rattle.sheet.proofs.main.Tie as tie
+use Rattle.sheet.proofs.answer_all.Statement.{statement}
+use Rattle.sheet.proofs.answer_all.Tie as tie
 
 abbrev Inv-loop : tie.InvT-loop
-Inv-loop portion₀ line₀ bodies₀ numbers₀ floats₀ steps₀ out₀ k₀ turns₀ t11 portion line bodies numbers floats steps out k turns =
-    Unit {0}
+Inv-loop portion₀ line₀ bodies₀ numbers₀ floats₀ steps₀ out₀ k₀ turns₀ t11 portion line bodies numbers floats steps out k turns = Unit {0}
 
 abbrev μ-loop : tie.MeasureT-loop
-μ-loop portion₀ line₀ bodies₀ numbers₀ floats₀ steps₀ out₀ k₀ turns₀ t11 portion line bodies numbers floats steps out k turns =
-    turns
+μ-loop portion₀ line₀ bodies₀ numbers₀ floats₀ steps₀ out₀ k₀ turns₀ t11 portion line bodies numbers floats steps out k turns = turns
 
 begin-requires : tie.Need-begin-requires Inv-loop μ-loop
 begin-requires c κs = search needs
@@ -31,7 +29,7 @@ returns-2 : tie.Need-returns-2 Inv-loop μ-loop
 returns-2 c = tt
 
 sub-turns : tie.Need-sub-turns Inv-loop μ-loop
-sub-turns c = search needs
+sub-turns c = omega arith
 
 loop-less : tie.Need-loop-less Inv-loop μ-loop
 loop-less c = omega arith
@@ -48,8 +46,8 @@ write-all-requires c κs = search needs
 returns-3 : tie.Need-returns-3 Inv-loop μ-loop
 returns-3 c = tt
 
-pub main-spec : {M : Type 1} → statement M
-main-spec =
+pub answer-all-spec : {M : Type 1} → statement M
+answer-all-spec =
     tie.close
     (tie.spec
     Inv-loop
