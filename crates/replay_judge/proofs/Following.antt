@@ -1,17 +1,15 @@
 -- A day's input, fed to its reader: all but a D that may be the input's end. Assumes nothing.
-use Prim.Native.Nat.{ℕ, _+_, min}
+use Prim.Native.Nat.{ℕ, _+_}
 use native.Mathlib.Omega.{arith}
 use borrow.Author.Tests.{ne-eqb}
 use mathlib.Core.Bool.{Bool, true, false}
 use mathlib.Core.List.{List, [], _∷_, _++_, append-assoc, append-nil}
 use mathlib.Core.Path.{_≡_, refl, sym, _∙_}
 use lib.ListN.{length, length-append}
-use Rattle.base_places.specs.Lengths.{largest}
-use Rattle.text_fields.specs.declared.Counts.{Counts}
 use Rattle.text_line.specs.Filled.{Cells, roomOf}
 use Rattle.text_read.specs.Text.{feeds, unread}
-use Rattle.text_read.specs.Portions.{begun, going}
-use Rattle.text_read.specs.Carried.{Takes, capped, cappedIn, readingIn}
+use Rattle.text_read.specs.Portions.{going}
+use Rattle.text_read.specs.Carried.{Takes, cappedIn, readingIn}
 use Rattle.text_read.specs.declared.Reader.{Reader}
 use Rattle.text_read.proofs.Going.{begins}
 use Rattle.text_read.proofs.Whole.{begun-fed, fed-more}

@@ -2,7 +2,7 @@
 use Prim.Native.Nat.{ℕ}
 use mathlib.Core.Bool.{Bool, true, false}
 use mathlib.Core.List.{List, [], _∷_, _++_, append-assoc, append-nil}
-use mathlib.Core.Path.{_≡_, refl, sym, _∙_}
+use mathlib.Core.Path.{_≡_, refl, _∙_}
 use Rattle.text_line.specs.Night.{ofProgram}
 use Rattle.text_line.specs.Filled.{Cells, roomOf}
 use Rattle.text_read.specs.Text.{feeds, unread}
