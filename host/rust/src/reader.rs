@@ -61,6 +61,9 @@ const STEPS: usize = 8;
 /// it is known. What the lines before it said stays in the tables; it and all that follows change nothing. Nor does a portion
 /// after the end, and a second end gives the same answer.
 ///
+/// Two readers are equal if all their words and bytes are; others may carry the same text, since no call looks at the bytes
+/// past the line's length, or at the length of a bad line.
+///
 /// ```
 /// use romaludiv::*;
 ///
