@@ -45,7 +45,7 @@ pub const NORMAL_IMPULSE: usize = IMPULSE;
 pub const TANGENT_IMPULSE: usize = NORMAL_WIDTH + IMPULSE;
 
 // The cells of a point that a step may store.
-#[derive(Drop)]
+#[derive(Clone, Copy)]
 pub enum Cell {
     NormalImpulse,
     TangentImpulse,

@@ -11,7 +11,7 @@ use quick_sweep::sweep;
 
 // The number that refuses the whole call, or 0; how many steps were done, and how many of those were
 // refused.
-#[derive(Drop)]
+#[derive(Clone, Copy)]
 pub struct Report {
     pub refusal: u16,
     pub done: usize,

@@ -1,5 +1,7 @@
 // How hard a contact point pushes after a turn, alone or beside another. It sees numbers alone, so that every
 // device with normal parts can share it.
+#![tactic(auto)]
+
 ghost use Rattle.std.specs.Prelude.{◌≡◌};
 ghost use Rattle.elem_impulse.specs.Point.{normal_impulse, restitution_impulse};
 ghost use Rattle.elem_impulse.specs.Pair.{choice, degraded};
@@ -9,7 +11,7 @@ ghost use Rattle.elem_impulse.specs.Block.{block_choice, candidates, first_passi
 use elem_leaves::{Vec2, inv, max0};
 
 // How a pair of points was solved.
-#[derive(Drop)]
+#[derive(Clone, Copy)]
 pub enum Branch {
     Both,
     OnlyA,
@@ -36,21 +38,21 @@ impl Branch {
 }
 
 // The new impulses of points a (x) and b (y), and how they were found.
-#[derive(Drop)]
+#[derive(Clone, Copy)]
 pub struct PairChoice {
     pub branch: Branch,
     pub impulse: Vec2,
 }
 
 // A way to solve the pair, and whether it is allowed.
-#[derive(Drop)]
+#[derive(Clone, Copy)]
 pub struct Candidate {
     pub passes: bool,
     pub choice: PairChoice,
 }
 
 // One point pushing alone.
-#[derive(Drop)]
+#[derive(Clone, Copy)]
 pub struct OnePoint {
     pub passes: bool,
     pub impulse: f32,
@@ -58,7 +60,7 @@ pub struct OnePoint {
 
 // The softened system that the candidates solve: 0 <= x, 0 <= K'x + b, one of them zero at each
 // point. K' has kp11 and kp22 on its diagonal and k12 beside it.
-#[derive(Drop)]
+#[derive(Clone, Copy)]
 pub struct System {
     pub b1: f32,
     pub b2: f32,

@@ -1,10 +1,12 @@
 // The leaves of document 01's arithmetic: a flat vector, its dot product and tangent, and three
 // functions of one float. The ported file only calls them; document 01 gives their rules.
+#![tactic(auto)]
+
 ghost use Rattle.std.specs.Prelude.{◌≡◌};
 ghost use Rattle.elem_leaves.specs.Finite.{finite};
 ghost use Rattle.elem_leaves.specs.Leaves.{clamp, dot, inv, max0, tangent};
 
-#[derive(Drop)]
+#[derive(Clone, Copy)]
 pub struct Vec2 {
     pub x: f32,
     pub y: f32,
@@ -29,7 +31,7 @@ impl Vec2 {
 }
 
 // What a reciprocal is cut by.
-#[derive(Drop)]
+#[derive(Clone, Copy)]
 pub struct Reciprocal;
 
 impl Reciprocal {

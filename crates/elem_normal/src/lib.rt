@@ -1,6 +1,8 @@
 // The normal part of a contact point, alone and in pairs, as in the Rust's
 // contact_constraint_element.rs for one lane of f32 in the plane: the same names in the same order.
 // A routine takes the part and the two velocities by value and gives the new ones back.
+#![tactic(auto)]
+
 ghost use Rattle.std.specs.Prelude.{◌≡◌};
 ghost use Rattle.elem_leaves.specs.Floats.{◌+f◌};
 ghost use Rattle.elem_impulse.specs.Pair.{choice};
@@ -13,7 +15,7 @@ use elem_leaves::Vec2;
 use elem_velocity::Vels;
 
 // Pushing, along the contact's direction.
-#[derive(Drop)]
+#[derive(Clone, Copy)]
 pub struct ContactConstraintNormalPart {
     pub torque_dir1: f32,
     pub torque_dir2: f32,
@@ -29,13 +31,13 @@ pub struct ContactConstraintNormalPart {
     pub seed: f32,
 }
 
-#[derive(Drop)]
+#[derive(Clone, Copy)]
 pub struct NormalSolved {
     pub part: ContactConstraintNormalPart,
     pub vels: Vels,
 }
 
-#[derive(Drop)]
+#[derive(Clone, Copy)]
 pub struct PairSolved {
     pub a: ContactConstraintNormalPart,
     pub b: ContactConstraintNormalPart,

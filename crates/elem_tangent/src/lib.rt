@@ -1,6 +1,8 @@
 // The tangent part of a contact point, as in the Rust's contact_constraint_element.rs for one lane
 // of f32 in the plane, with its names. A routine takes the part and the two velocities by value and
 // gives the new ones back.
+#![tactic(auto)]
+
 ghost use Rattle.std.specs.Prelude.{◌≡◌};
 ghost use Rattle.elem_leaves.specs.Floats.{◌+f◌};
 ghost use Rattle.elem_tangent.specs.Tangent.{friction, tangent_warm, tangent_zero};
@@ -9,7 +11,7 @@ use elem_leaves::{Vec2, clamp};
 use elem_velocity::Vels;
 
 // Rubbing, along the contact's tangent.
-#[derive(Drop)]
+#[derive(Clone, Copy)]
 pub struct ContactConstraintTangentPart {
     pub torque_dir1: f32,
     pub torque_dir2: f32,
@@ -21,7 +23,7 @@ pub struct ContactConstraintTangentPart {
     pub r: f32,
 }
 
-#[derive(Drop)]
+#[derive(Clone, Copy)]
 pub struct TangentSolved {
     pub part: ContactConstraintTangentPart,
     pub vels: Vels,

@@ -1,19 +1,21 @@
 // The velocities that a contact reads and pushes: document 01's dvel and push. Both parts of a
 // contact point, the normal and the tangent, read and push by these two rules.
+#![tactic(auto)]
+
 ghost use Rattle.std.specs.Prelude.{◌≡◌};
 ghost use Rattle.elem_velocity.specs.Velocity.{dvel, moved, push, rest};
 
 use elem_leaves::Vec2;
 
 // A body's velocity along x and y, and its turning.
-#[derive(Drop)]
+#[derive(Clone, Copy)]
 pub struct SolverVel {
     pub linear: Vec2,
     pub angular: f32,
 }
 
 // The velocities of a contact's two bodies.
-#[derive(Drop)]
+#[derive(Clone, Copy)]
 pub struct Vels {
     pub v1: SolverVel,
     pub v2: SolverVel,

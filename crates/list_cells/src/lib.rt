@@ -13,7 +13,7 @@ use step_contact::{Contact, ContactHead, ContactPoint, FLOOR};
 use step_kinds::stores;
 
 // The number of a refusal, or 0; and how a pair was solved, or 0.
-#[derive(Drop)]
+#[derive(Clone, Copy)]
 pub struct Answer {
     pub number: u16,
     pub branch: u16,

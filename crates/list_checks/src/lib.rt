@@ -13,14 +13,14 @@ use list_tables::step_at;
 use step_shape::kind_above;
 
 // What is wrong with a step of a list, so that the whole list is refused.
-#[derive(Drop)]
+#[derive(Clone, Copy)]
 pub enum Fault {
     NoContact,
     KindAbove,
 }
 
 // The largest contact number and the largest kind of a list; 0 and 0 where it is empty.
-#[derive(Drop)]
+#[derive(Clone, Copy)]
 pub struct Most {
     pub contact: u16,
     pub kind: u16,

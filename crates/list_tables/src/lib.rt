@@ -18,7 +18,7 @@ use elem_velocity::SolverVel;
 use step_contact::{Contact, ContactHead, ContactPoint, FLOOR};
 
 // A contact's number and the kind of the step.
-#[derive(Drop)]
+#[derive(Clone, Copy)]
 pub struct Step {
     pub contact: u16,
     pub kind: u16,

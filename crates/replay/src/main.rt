@@ -14,7 +14,7 @@ use libc::{STDERR_FILENO, STDIN_FILENO, STDOUT_FILENO};
 use replay_judge::{Judge, begin, judge_end, judge_read};
 
 // How many bytes were handed to be written, and whether they were.
-#[derive(Drop)]
+#[derive(Clone, Copy)]
 struct Handed {
     count: usize,
     well: bool,
@@ -22,7 +22,7 @@ struct Handed {
 
 // After a portion: what is carried on, how many bytes were read and how many handed to be written, whether there may be
 // more to read, and whether all went well so far.
-#[derive(Drop)]
+#[derive(Clone, Copy)]
 struct Onward {
     judge: Judge,
     read: usize,

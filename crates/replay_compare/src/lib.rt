@@ -9,7 +9,7 @@ ghost use Rattle.replay_compare.specs.Spots.{compared_all, compared_to, end_numb
 use text_digits::put;
 
 // What is known of the line so far.
-#[derive(Drop)]
+#[derive(Clone, Copy)]
 pub enum LineSoFar {
     Empty,
     One(u8),
@@ -18,7 +18,7 @@ pub enum LineSoFar {
 
 // A spot in the output that a recorded one is compared with: how long the output is, where its line starts, and,
 // while that line and the recorded one agree (`on`), how far they do; and the line's number.
-#[derive(Drop)]
+#[derive(Clone, Copy)]
 pub struct Spot {
     pub len: usize,
     pub start: usize,
@@ -28,14 +28,14 @@ pub struct Spot {
 }
 
 // The output's next byte and the place after it, or its end.
-#[derive(Drop)]
+#[derive(Clone, Copy)]
 pub enum Next {
     Byte(u8, usize),
     End,
 }
 
 // Whether a recorded line is the output's next one: where the one after that starts.
-#[derive(Drop)]
+#[derive(Clone, Copy)]
 pub enum Meeting {
     Line(usize),
     Other,

@@ -23,14 +23,14 @@ use text_read::Reader;
 
 // A day's input so far: the reader of it, and whether a line of it has ended. A line that holds only D so far is not fed to
 // the reader before it goes on: it may be the end of the input.
-#[derive(Drop)]
+#[derive(Clone, Copy)]
 pub struct Feeding {
     pub reader: Reader,
     pub any: bool,
 }
 
 // In a day's input; in its recorded output; or there after a line that differs.
-#[derive(Drop)]
+#[derive(Clone, Copy)]
 pub enum Part {
     Input(Feeding),
     Comparing(Spot),
@@ -38,7 +38,7 @@ pub enum Part {
 }
 
 // What is carried from one line, or part of one, to the next.
-#[derive(Drop)]
+#[derive(Clone, Copy)]
 pub struct Judge {
     pub day: usize,
     pub line: LineSoFar,
@@ -46,14 +46,14 @@ pub struct Judge {
 }
 
 // What is carried on, and the place after what was told.
-#[derive(Drop)]
+#[derive(Clone, Copy)]
 pub struct Turned {
     pub judge: Judge,
     pub at: usize,
 }
 
 // The same, and the place in the portion after what was judged.
-#[derive(Drop)]
+#[derive(Clone, Copy)]
 struct Turn {
     judge: Judge,
     at: usize,

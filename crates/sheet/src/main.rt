@@ -15,7 +15,7 @@ use text_read::{Reader, is_bad};
 
 // After a portion: what is carried on, how many bytes were read, whether there may be more to read that matters, and
 // whether all went well so far.
-#[derive(Drop)]
+#[derive(Clone, Copy)]
 struct Onward {
     reader: Reader,
     read: usize,

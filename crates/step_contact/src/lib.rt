@@ -1,5 +1,7 @@
 // The record of a contact of two bodies: a head and two points. The shape is that of the Rust's
 // contact_with_coulomb_friction.rs for one lane: its arrays of two parts are points a and b here.
+#![tactic(auto)]
+
 ghost use Rattle.std.specs.Prelude.{◌≡◌};
 ghost use Rattle.step_contact.specs.Contact.{contact_zero, head_zero, point_zero};
 ghost use Rattle.step_contact.specs.Cells.{in_cell};
@@ -14,7 +16,7 @@ pub const FLOOR: u16 = 65535;
 
 // What a contact says of itself: its bodies' numbers, how many points it has, and what its points
 // share.
-#[derive(Drop)]
+#[derive(Clone, Copy)]
 pub struct ContactHead {
     pub body1: u16,
     pub body2: u16,
@@ -28,13 +30,13 @@ pub struct ContactHead {
 }
 
 // One point of a contact: how it pushes and how it rubs.
-#[derive(Drop)]
+#[derive(Clone, Copy)]
 pub struct ContactPoint {
     pub normal_part: ContactConstraintNormalPart,
     pub tangent_part: ContactConstraintTangentPart,
 }
 
-#[derive(Drop)]
+#[derive(Clone, Copy)]
 pub struct Contact {
     pub head: ContactHead,
     pub a: ContactPoint,

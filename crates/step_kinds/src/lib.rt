@@ -1,6 +1,8 @@
 // What each kind of step does with a contact and the velocities of its two bodies: the rules at a
 // point, over the points below count, and the routine that a kind chooses. All is by value: a
 // contact and two velocities in, the new ones back.
+#![tactic(auto)]
+
 ghost use Rattle.std.specs.Prelude.{◌≡◌};
 ghost use Rattle.step_kinds.specs.Kinds.{at_point, over_points, pair_of, turn, warm_start};
 ghost use Rattle.step_kinds.specs.Kinds.{friction_at, normal_at, normal_left, restitution_at};
@@ -14,7 +16,7 @@ use step_contact::{Contact, ContactHead, ContactPoint};
 
 // What a rule does at one point. Warm start is two of them, since it pushes all normal parts before
 // any tangent part.
-#[derive(Drop)]
+#[derive(Clone, Copy)]
 pub enum Rule {
     WarmNormal,
     WarmTangent,
@@ -23,14 +25,14 @@ pub enum Rule {
     Restitution,
 }
 
-#[derive(Drop)]
+#[derive(Clone, Copy)]
 pub struct PointSolved {
     pub point: ContactPoint,
     pub vels: Vels,
 }
 
 // The branch is 0 for every routine but the pair.
-#[derive(Drop)]
+#[derive(Clone, Copy)]
 pub struct ContactSolved {
     pub branch: u16,
     pub contact: Contact,

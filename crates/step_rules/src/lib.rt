@@ -1,12 +1,14 @@
 // What one step comes to, as a type: an outcome says what is to be written, or that nothing is. The rules of a step, by
 // which it is refused or done, are definitions in specs/; the engines that meet them stand above.
+#![tactic(auto)]
+
 ghost use Rattle.std.specs.Prelude.{◌≡◌};
 ghost use Rattle.step_rules.specs.Step.{answer, branch};
 
 use step_kinds::ContactSolved;
 
 // Refused with its number, or done: the branch, the new contact and the new velocities.
-#[derive(Drop)]
+#[derive(Clone, Copy)]
 pub enum Outcome {
     Refused(u16),
     Done(ContactSolved),

@@ -1,5 +1,7 @@
 // Numbers 3, 5, 6 and 7 of document 01's table: what a step refuses by its kind and by the whole
 // numbers of its contact. Each function is true where its number's condition holds.
+#![tactic(auto)]
+
 ghost use Rattle.std.specs.Prelude.{◌≡◌};
 ghost use Rattle.step_shape.specs.Shape.{kind_above, pair_of_one, wrong_bodies, wrong_count};
 

@@ -2,6 +2,8 @@
 // the velocities of its bodies, and by what it would write. Each public function is true where its
 // number's condition holds, but for finite_head and finite_point, 8's parts, which quick_flaws asks
 // one after the other. They read; nothing here changes a contact.
+#![tactic(auto)]
+
 ghost use Rattle.std.specs.Prelude.{◌≡◌, ◌&&◌, ltb};
 ghost use Rattle.step_values.specs.Values.{below_count, finite_head, finite_normal, finite_point};
 ghost use Rattle.step_values.specs.Values.{finite_tangent, finite_vel, floor_moves, head_out};

@@ -1,5 +1,7 @@
 // Numbers of the text form: one digit, eight hex digits and a decimal number, read and written; and patterns
 // of 32 bits as floats. What is written goes into a lent buffer as far as it has room.
+#![tactic(auto)]
+
 ghost use Rattle.std.specs.Prelude.{◌≡◌, [], ◌∷◌, ◌&&◌, ◌+◌, ◌-◌, ◌*◌, ◌≤◌, ◌<◌, leb, length};
 ghost use Rattle.base_words.specs.Choice.{if◌then◌else◌};
 ghost use Rattle.text_digits.specs.Digits.{digit_of, number_from, hex_of, dec_of, dec_bytes, dec_digits, hex_digits, dec_field, hex_field};
@@ -8,7 +10,7 @@ ghost use Rattle.text_digits.specs.Bits.{value_of, printed};
 ghost use Rattle.text_digits.specs.Wrote.{Wrote};
 
 // A number that was read, or none.
-#[derive(Drop)]
+#[derive(Clone, Copy)]
 pub enum Number {
     Is(u32),
     No,

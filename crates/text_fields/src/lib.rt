@@ -1,4 +1,6 @@
 // Fields of a line: its letter, and what the fields after the letter say.
+#![tactic(auto)]
+
 ghost use Rattle.std.specs.Prelude.{◌≡◌, ◌+◌, ◌≤◌, eqb, length, drop};
 ghost use Rattle.base_places.specs.Places.{normal_width};
 ghost use Rattle.text_fields.specs.Fields.{until};
@@ -15,7 +17,7 @@ const TAB: u8 = 9;
 // So many bytes are looked at together.
 const BLOCK: usize = 16;
 
-#[derive(Drop)]
+#[derive(Clone, Copy)]
 pub enum Letter {
     Body,
     Contact,
@@ -26,14 +28,14 @@ pub enum Letter {
 }
 
 // How a number is written: decimal, or as eight hex digits.
-#[derive(Drop)]
+#[derive(Clone, Copy)]
 pub enum Form {
     Decimal,
     Hex,
 }
 
 // So many numbers of each table: bodies' floats, contacts' numbers and floats, steps' numbers.
-#[derive(Drop)]
+#[derive(Clone, Copy)]
 pub struct Counts {
     pub bodies: usize,
     pub numbers: usize,
@@ -42,7 +44,7 @@ pub struct Counts {
 }
 
 // What a field says, and the byte after the tab that ends it.
-#[derive(Drop)]
+#[derive(Clone, Copy)]
 pub enum Field {
     Holds(u32, usize),
     Bad,
@@ -50,7 +52,7 @@ pub enum Field {
 
 // What several fields say, from the front, and the byte after the tab that ends them. None has more of one form than an
 // N line.
-#[derive(Drop)]
+#[derive(Clone, Copy)]
 pub struct Got {
     pub good: bool,
     pub next: usize,
@@ -58,7 +60,7 @@ pub struct Got {
 }
 
 // What a line says after its letter, from the front; nothing, where it is not good.
-#[derive(Drop)]
+#[derive(Clone, Copy)]
 pub struct Row {
     pub good: bool,
     pub numbers: [u32; NORMAL_WIDTH],

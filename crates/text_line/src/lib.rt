@@ -15,7 +15,7 @@ use text_fields::{Letter, Row};
 
 // The place in the order of lines: among the bodies; in a contact, before its N, T, N or T; after a contact; among the
 // steps.
-#[derive(Drop)]
+#[derive(Clone, Copy)]
 pub enum Place {
     Bodies,
     NormalA,
@@ -27,14 +27,14 @@ pub enum Place {
 }
 
 // Where a line leads.
-#[derive(Drop)]
+#[derive(Clone, Copy)]
 pub enum Next {
     To(Place),
     OutOfOrder,
 }
 
 // The place in the order of lines, and how many numbers of each table are filled.
-#[derive(Drop)]
+#[derive(Clone, Copy)]
 pub struct State {
     pub place: Place,
     pub bodies: usize,
@@ -44,7 +44,7 @@ pub struct State {
 }
 
 // What a line came to: the state after it, or the reason why it is bad.
-#[derive(Drop)]
+#[derive(Clone, Copy)]
 pub enum LineRead {
     Good(State),
     Bad(u8),

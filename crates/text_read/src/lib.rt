@@ -15,7 +15,7 @@ use text_line::{LineRead, Place, State, in_contact, read_line};
 const LINE_END: u8 = 10;
 
 // Whether a line was bad, and why.
-#[derive(Drop)]
+#[derive(Clone, Copy)]
 pub enum Came {
     Fine,
     Bad(u8),
@@ -23,7 +23,7 @@ pub enum Came {
 
 // Whether the end was announced; whether a line was bad; the number of the line that has not ended, or of the bad one; the place in
 // the order of lines and how far the tables are filled; how many bytes there are of the line that has not ended.
-#[derive(Drop)]
+#[derive(Clone, Copy)]
 pub struct Reader {
     pub over: bool,
     pub came: Came,
@@ -33,7 +33,7 @@ pub struct Reader {
 }
 
 // After a line, or a part of one: the place in the portion after it.
-#[derive(Drop)]
+#[derive(Clone, Copy)]
 struct Turn {
     reader: Reader,
     at: usize,

@@ -13,7 +13,7 @@ use base_places::{
 
 // What is listed, from a table of numbers and one of bits: answers, which are numbers, bodies, which are bits, or the
 // loads of points, from their contacts' two tables.
-#[derive(Drop)]
+#[derive(Clone, Copy)]
 pub enum Listed {
     Answers,
     Bodies,
