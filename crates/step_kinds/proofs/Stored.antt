@@ -10,8 +10,6 @@ use Rattle.base_words.proofs.Pick.{never}
 use Rattle.base_places.specs.Places.{cells}
 use Rattle.base_places.specs.declared.Cell.{Cell}
 use Rattle.base_places.specs.declared.Cell.TheVariants.{NormalImpulse, TangentImpulse}
-use Rattle.elem_tangent.specs.Tangent.{tangent_with}
-use Rattle.elem_normal.specs.Normal.{normal_with}
 use Rattle.step_contact.specs.Cells.{in_cell, with_cell}
 use Rattle.step_contact.specs.declared.Contact.{Contact}
 use Rattle.step_contact.specs.declared.ContactPoint.{ContactPoint}
