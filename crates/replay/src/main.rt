@@ -1,6 +1,8 @@
 // The replay of recorded nights: a file of days on standard input, a line for each day on standard output. All that it
 // says stands in the crate replay_judge; here are the buffers, the reading in portions, and what is said on standard error
 // where the file cannot be read to its end or a line not written.
+#![tactic(auto)]
+
 ghost use Rattle.std.specs.Prelude.{◌≡◌, ◌≤◌, length};
 ghost use Rattle.replay_judge.specs.Carried.{buffers};
 ghost use Rattle.replay_judge.specs.Stands.{Finishes};
@@ -10,8 +12,8 @@ use base_places::{
     BODY_WIDTH, FLOATS_WIDTH, LONGEST_OUTPUT, MOST_IN_LINE, NUMBERS_WIDTH, PORTION, PROGRAM_BODIES,
     PROGRAM_CONTACTS, PROGRAM_STEPS, STEP_WIDTH, TOLD,
 };
-use libc::{STDERR_FILENO, STDIN_FILENO, STDOUT_FILENO};
 use replay_judge::{Judge, begin, judge_end, judge_read};
+use std::io::{Read, Write};
 
 // How many bytes were handed to be written, and whether they were.
 #[derive(Clone, Copy)]
@@ -31,29 +33,28 @@ struct Onward {
     well: bool,
 }
 
+// Says on standard error what went wrong; where that cannot be written, there is nobody left to tell.
+fn say<E: Write>(errors: &mut E, message: &[u8]) {
+    let _ = errors.write_all(message);
+}
+
 // Hands the first k bytes to be written, and answers how many that were.
-fn write_out(told: &[u8], k: usize) -> Handed
+fn write_out<W: Write, E: Write>(output: &mut W, errors: &mut E, told: &[u8], k: usize) -> Handed
     requires { k ≤ length told.now }
     ensures { result.count ≡ k }
 {
-    if io::write_all(STDOUT_FILENO, &told[..k]) {
-        return Handed {
-            count: k,
-            well: true,
-        };
+    let well = output.write_all(&told[..k]).is_ok();
+    if !well {
+        say(errors, b"replay: a day's line could not be written\n");
     }
-    io::write_all(
-        STDERR_FILENO,
-        b"replay: a day's line could not be written\n",
-    );
-    Handed {
-        count: k,
-        well: false,
-    }
+    Handed { count: k, well }
 }
 
 // Reads once, and tells of the days that end there. Where the read fails, it is as if no byte was read.
-fn replay_some(
+fn replay_some<R: Read, W: Write, E: Write>(
+    input: &mut R,
+    output: &mut W,
+    errors: &mut E,
     j: Judge,
     portion: &mut [u8; PORTION],
     held: &mut [u8; MOST_IN_LINE],
@@ -67,12 +68,8 @@ fn replay_some(
     ensures { ReadOnce j (buffers held.old bodies.old numbers.old floats.old steps.old) out.old told.old result
         portion.new (buffers held.new bodies.new numbers.new floats.new steps.new) out.new told.new }
 {
-    let got = libc::read(STDIN_FILENO, &mut *portion);
-    if got < 0 {
-        io::write_all(
-            STDERR_FILENO,
-            b"replay: the file could not be read to its end\n",
-        );
+    let Ok(n) = input.read(&mut *portion) else {
+        say(errors, b"replay: the file could not be read to its end\n");
         return Onward {
             judge: j,
             read: 0,
@@ -80,14 +77,13 @@ fn replay_some(
             more: false,
             well: false,
         };
-    }
-    let n = io::count(got, &*portion);
+    };
     let t = judge_read(
         j, &*portion, n, held, bodies, numbers, floats, steps, out, &mut *told,
     );
     let judge = t.judge;
     let at = t.at;
-    let handed = write_out(&*told, at);
+    let handed = write_out(output, errors, &*told, at);
     let count = handed.count;
     let well = handed.well;
     Onward {
@@ -100,7 +96,9 @@ fn replay_some(
 }
 
 // The end of the file.
-fn replay_end(
+fn replay_end<W: Write, E: Write>(
+    output: &mut W,
+    errors: &mut E,
     j: Judge,
     held: &mut [u8; MOST_IN_LINE],
     bodies: &mut [u32; PROGRAM_BODIES * BODY_WIDTH],
@@ -113,13 +111,16 @@ fn replay_end(
     ensures { Finishes j (buffers held.old bodies.old numbers.old floats.old steps.old) out.old told.old told.new result.count }
 {
     let k = judge_end(j, held, bodies, numbers, floats, steps, out, &mut *told);
-    write_out(&*told, k)
+    write_out(output, errors, &*told, k)
 }
 
 // Portion after portion, each turn with what the one before left; then the end. A proved loop has to end, and nothing
 // says that a file does: so the loop counts down from a number that no run uses up. With 2^51 portions of 4,096 bytes a
 // day's number stays below 2^63.
-fn replay_all(
+fn replay_all<R: Read, W: Write, E: Write>(
+    input: &mut R,
+    output: &mut W,
+    errors: &mut E,
     portion: &mut [u8; PORTION],
     held: &mut [u8; MOST_IN_LINE],
     bodies: &mut [u32; PROGRAM_BODIES * BODY_WIDTH],
@@ -133,6 +134,9 @@ fn replay_all(
     let mut turns: u64 = 2251799813685248;
     while 0 < turns {
         let on = replay_some(
+            &mut *input,
+            &mut *output,
+            &mut *errors,
             j,
             &mut *portion,
             &mut *held,
@@ -146,16 +150,18 @@ fn replay_all(
         j = on.judge;
         if !on.more {
             if on.well {
-                replay_end(j, held, bodies, numbers, floats, steps, out, told);
+                replay_end(
+                    output, errors, j, held, bodies, numbers, floats, steps, out, told,
+                );
             }
             return;
         }
         turns -= 1;
     }
-    io::write_all(STDERR_FILENO, b"replay: the file is too long\n");
+    say(errors, b"replay: the file is too long\n");
 }
 
-fn main() {
+fn main(rt: HostRuntime) {
     let mut portion = [0; PORTION];
     let mut held = [0; MOST_IN_LINE];
     let mut bodies = [0; PROGRAM_BODIES * BODY_WIDTH];
@@ -165,6 +171,9 @@ fn main() {
     let mut out = [0; LONGEST_OUTPUT];
     let mut told = [0; TOLD];
     replay_all(
+        &mut rt.stdin(),
+        &mut rt.stdout(),
+        &mut rt.stderr(),
         &mut portion,
         &mut held,
         &mut bodies,

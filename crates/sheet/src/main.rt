@@ -1,6 +1,8 @@
 // The text program: a night's text on standard input, its answer on standard output. All that it does stands in the crates
 // text_read and text_program; here are the buffers, the reading in portions, which ends after a bad line too, and what is
 // said on standard error where the input cannot be read to its end or the answer not written.
+#![tactic(auto)]
+
 ghost use Rattle.std.specs.Prelude.{◌≡◌, ◌≤◌, length};
 ghost use Rattle.text_line.specs.Filled.{cells};
 ghost use Rattle.sheet.specs.Once.{AnsweredOnce, ReadOnce};
@@ -9,7 +11,7 @@ use base_places::{
     BODY_WIDTH, FLOATS_WIDTH, LONGEST_OUTPUT, MOST_IN_LINE, NUMBERS_WIDTH, PORTION, PROGRAM_BODIES,
     PROGRAM_CONTACTS, PROGRAM_STEPS, STEP_WIDTH,
 };
-use libc::{STDERR_FILENO, STDIN_FILENO, STDOUT_FILENO};
+use std::io::{Read, Write};
 use text_program::{answer_read, front};
 use text_read::{Reader, is_bad};
 
@@ -23,20 +25,27 @@ struct Onward {
     well: bool,
 }
 
+// Says on standard error what went wrong; where that cannot be written, there is nobody left to tell.
+fn say<E: Write>(errors: &mut E, message: &[u8]) {
+    let _ = errors.write_all(message);
+}
+
 // Hands the first k bytes to be written, and answers how many that were.
-fn write_out(out: &[u8], k: usize) -> usize
+fn write_out<W: Write, E: Write>(output: &mut W, errors: &mut E, out: &[u8], k: usize) -> usize
     requires { k ≤ length out.now }
     ensures { result ≡ k }
 {
-    if !io::write_all(STDOUT_FILENO, &out[..k]) {
-        io::write_all(STDERR_FILENO, b"sheet: the answer could not be written\n");
+    if output.write_all(&out[..k]).is_err() {
+        say(errors, b"sheet: the answer could not be written\n");
     }
     k
 }
 
 // Reads once. A read of no bytes is the end, and none comes after it: at a terminal one more would wait for a second
 // Ctrl-D. Where the read fails, it is as if no byte was read.
-fn read_some(
+fn read_some<R: Read, E: Write>(
+    input: &mut R,
+    errors: &mut E,
     k: Reader,
     portion: &mut [u8; PORTION],
     line: &mut [u8; MOST_IN_LINE],
@@ -49,20 +58,15 @@ fn read_some(
         portion.new line.new
         (cells bodies.new numbers.new floats.new steps.new) }
 {
-    let got = libc::read(STDIN_FILENO, &mut *portion);
-    if got < 0 {
-        io::write_all(
-            STDERR_FILENO,
-            b"sheet: the input could not be read to its end\n",
-        );
+    let Ok(n) = input.read(&mut *portion) else {
+        say(errors, b"sheet: the input could not be read to its end\n");
         return Onward {
             reader: k,
             read: 0,
             more: false,
             well: false,
         };
-    }
-    let n = io::count(got, &*portion);
+    };
     let reader = text_read::portion(k, front(&*portion, n), line, bodies, numbers, floats, steps);
     let came = reader.came;
     Onward {
@@ -74,7 +78,9 @@ fn read_some(
 }
 
 // The end of the input: its answer, handed to be written.
-fn answer(
+fn answer<W: Write, E: Write>(
+    output: &mut W,
+    errors: &mut E,
     k: Reader,
     line: &[u8; MOST_IN_LINE],
     bodies: &mut [u32; PROGRAM_BODIES * BODY_WIDTH],
@@ -95,12 +101,15 @@ fn answer(
         &mut *steps,
     );
     let n = answer_read(reader, bodies, &*numbers, floats, &*steps, &mut *out);
-    write_out(&*out, n)
+    write_out(output, errors, &*out, n)
 }
 
 // Portion after portion, each turn with what the one before left; then the end. A proved loop has to end, so this one counts
 // down. It never comes to 0: a text has at most 641 lines, each of at most 160 bytes, and ends before or is bad.
-fn answer_all(
+fn answer_all<R: Read, W: Write, E: Write>(
+    input: &mut R,
+    output: &mut W,
+    errors: &mut E,
     portion: &mut [u8; PORTION],
     line: &mut [u8; MOST_IN_LINE],
     bodies: &mut [u32; PROGRAM_BODIES * BODY_WIDTH],
@@ -113,6 +122,8 @@ fn answer_all(
     let mut turns: u64 = 2251799813685248;
     while 0 < turns {
         let on = read_some(
+            &mut *input,
+            &mut *errors,
             k,
             &mut *portion,
             &mut *line,
@@ -124,16 +135,18 @@ fn answer_all(
         k = on.reader;
         if !on.more {
             if on.well {
-                answer(k, &*line, bodies, numbers, floats, steps, out);
+                answer(
+                    output, errors, k, &*line, bodies, numbers, floats, steps, out,
+                );
             }
             return;
         }
         turns -= 1;
     }
-    io::write_all(STDERR_FILENO, b"sheet: the input is too long\n");
+    say(errors, b"sheet: the input is too long\n");
 }
 
-fn main() {
+fn main(rt: HostRuntime) {
     let mut portion = [0; PORTION];
     let mut line = [0; MOST_IN_LINE];
     let mut bodies = [0; PROGRAM_BODIES * BODY_WIDTH];
@@ -142,6 +155,9 @@ fn main() {
     let mut steps = [0; PROGRAM_STEPS * STEP_WIDTH];
     let mut out = [0; LONGEST_OUTPUT];
     answer_all(
+        &mut rt.stdin(),
+        &mut rt.stdout(),
+        &mut rt.stderr(),
         &mut portion,
         &mut line,
         &mut bodies,
