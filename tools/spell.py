@@ -9,24 +9,27 @@ import re
 
 TOP = os.path.dirname(os.path.dirname(os.path.abspath(__file__)))
 NAMES = dict(line.split() for line in open(os.path.join(TOP, "tools", "spelling.txt"), encoding="utf-8") if not line.startswith("#"))
+# what can stand in Rust's own text is no name of theirs
+SOURCE = re.compile(r"[a-z_0-9]+")
 WORD = re.compile(r"[^\s(){}\[\],;.:=→λ∷⌜⌝×≡`\"]+")
 
 
-def code(text):
-    return WORD.sub(lambda m: NAMES.get(m.group(0), m.group(0)), text)
+def code(text, source):
+    return WORD.sub(lambda m: m.group(0) if source and SOURCE.fullmatch(m.group(0)) else NAMES.get(m.group(0), m.group(0)), text)
 
 
-def quoted(text):
-    return re.sub(r"`[^`]*`", lambda m: code(m.group(0)), text)
+def quoted(text, source):
+    return re.sub(r"`[^`]*`", lambda m: code(m.group(0), source), text)
 
 
-def turned(text, comment):
+def turned(text, source):
+    comment = "//" if source else "-- "
     out = []
     for line in text.split("\n"):
         at = re.search(r"(?:^|(?<=\s))" + comment, line)
         front, rest = (line[:at.start()], line[at.start():]) if at else (line, "")
         parts = re.split(r'("(?:[^"\\]|\\.)*")', front)
-        out.append("".join(p if i % 2 else code(p) for i, p in enumerate(parts)) + quoted(rest))
+        out.append("".join(p if i % 2 else code(p, source) for i, p in enumerate(parts)) + quoted(rest, source))
     return "\n".join(out)
 
 
@@ -40,7 +43,7 @@ def main():
                 continue
             with open(path, encoding="utf-8") as f:
                 old = f.read()
-            new = turned(old, "//" if name.endswith(".rt") else "-- ")
+            new = turned(old, name.endswith(".rt"))
             if new != old:
                 changed += 1
                 with open(path, "w", encoding="utf-8") as f:

@@ -1,5 +1,7 @@
 // What a step writes into the lent stretches, cell by cell, and nothing else. The engine knows that the rows of a step's
 // bodies and of its contact are there; an answer's row need not be, and then it is not written.
+#![tactic(auto)]
+
 ghost use Rattle.std.specs.Prelude.{◌≡◌, ◌<◌, length};
 ghost use Rattle.base_rows.specs.Rows.{rows};
 ghost use Rattle.base_places.specs.Places.{answer_width, body_width, floats_width, place, point_width};

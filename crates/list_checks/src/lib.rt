@@ -1,4 +1,6 @@
 // Numbers 1 to 4, which refuse a whole call: they look at all that is lent, before any step.
+#![tactic(auto)]
+
 ghost use Rattle.std.specs.Prelude.{max, ◌≡◌};
 ghost use Rattle.base_refusals.specs.Refusals.{first};
 ghost use Rattle.list_rules.specs.Sweep.{tables};
@@ -95,11 +97,11 @@ pub fn whole_call(
     let most = largest(steps);
     let some = 0 < steps.len() / STEP_WIDTH;
     let no_contact = some & !((most.contact as usize) < contacts);
-    let no_kind_lem = some & kind_above(most.kind);
+    let no_kind = some & kind_above(most.kind);
     if no_contact {
         return 2;
     }
-    if no_kind_lem {
+    if no_kind {
         return 3;
     }
     if room.len() / ANSWER_WIDTH < steps.len() / STEP_WIDTH {

@@ -1,5 +1,7 @@
 // The lent stretches as tables of rows: a row is lent as a part and read as a record. A row that a
 // table does not have reads as zero; velocity_in and contact_in ask that it is there.
+#![tactic(auto)]
+
 ghost use Rattle.std.specs.Prelude.{◌≡◌, min, ◌<◌, length};
 ghost use Rattle.base_places.specs.Places.{body_width, floats_width, head_width, normal_width, numbers_width};
 ghost use Rattle.base_places.specs.Places.{point_width, step_width, tangent_width};

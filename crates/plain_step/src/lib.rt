@@ -2,6 +2,8 @@
 // written. It tests one condition after the other, in the order of judging, and remembers nothing: this is the step that
 // the plain engine of request E13 walks with. What ships today is the quick engine's step, in quick_step; both meet
 // the same definition.
+#![tactic(auto)]
+
 ghost use Rattle.std.specs.Prelude.{◌≡◌, [], ◌∷◌};
 ghost use Rattle.step_kinds.specs.Table.{routine};
 ghost use Rattle.step_values.specs.Values.{unwritable};

@@ -77,12 +77,15 @@ module _ (c : Contact) (v : Vels) where
   over_pushes rule there at_a = turn_pushes c.head c.a v rule at_a (there at_a v)
   over_pushes rule there at_b = let w = (turn rule 0 c.head c.a v).vels in turn_pushes c.head c.b w rule at_b (there at_b w)
 
-  pair_pushes : 1 < c.head.count → Soft c → AllPush c (pair_of c v).contact
+  pair_parts : (two : 1 < c.head.count) (soft : Soft c) → Pushes (load at_a c) (load at_a (pair_of c v).contact) × Pushes (load at_b c) (load at_b (pair_of c v).contact)
   unfolding pair_of
-  pair_pushes two soft x =
+  pair_parts two soft =
       let h = c.head in
-      let both = parts_push.pairs c.a.normal_part c.b.normal_part h.dir1 h.im1 h.im2 h.k12 h.flag v (soft at_a (omega arith)) (soft at_b two) in
-      elim x [ at_a ↦ both.0 | at_b ↦ both.1 ]
+      parts_push.pairs c.a.normal_part c.b.normal_part h.dir1 h.im1 h.im2 h.k12 h.flag v (soft at_a (omega arith)) (soft at_b two)
+
+  pair_pushes : 1 < c.head.count → Soft c → AllPush c (pair_of c v).contact
+  pair_pushes two soft at_a = (pair_parts two soft).0
+  pair_pushes two soft at_b = (pair_parts two soft).1
 
   warm_pushes : AllPush c (warm_start c v).contact
   warm_pushes x = rw (warm_keeps c v) (inl refl)

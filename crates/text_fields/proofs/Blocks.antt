@@ -11,7 +11,7 @@ use lib.Dec.{eqb}
 use lib.ListN.{drop, drop_of_length-le, get_or, length, length-drop, take, take-append-drop}
 use lib.Seq.{drop-cons, drop-drop, length-take-le}
 use Rattle.text_fields.specs.Fields.{Free, until}
-use Rattle.text_fields.proofs.Runs.{until_past, until_within}
+use Rattle.text_fields.proofs.Runs.{until_past}
 use Rattle.text_fields.proofs.Until.{On, until_here, until_nil, until_on}
 
 -- whether a run is free
@@ -36,9 +36,6 @@ free_by e b s false q = by (is_free e s) refl
 pub record Clear (e : ℕ) (s : List ℕ) (i : ℕ) (free : Bool) : Type 0 where
   pub same : (free && is_free e (drop i s)) ≡ is_free e s
 
-pub clear_yet : (e : ℕ) (s : List ℕ) → Clear e s 0 true
-clear_yet e s = record { same = refl }
-
 regroup : (p q r : Bool) → (p && q && r) ≡ (p && (q && r))
 regroup true q r = refl
 regroup false q r = refl
@@ -61,14 +58,12 @@ module _ {e : ℕ} {s : List ℕ} {i : ℕ} {free : Bool} (v : Clear e s i free)
 
 -- the search goes on after a block that lacks e, and what is found from there is found from the start
 module _ {s : List ℕ} {at e i : ℕ} (v : On s at e i) where
-  pub over_block : {free : Bool} (n : ℕ) → i + n ≤ length s → free ≡ is_free e (take (i + n - i) (drop i s)) → free ≡ true → On s at e (i + n)
-  over_block n h f t =
+  pub over_block : {free : Bool} (n : ℕ) → i ≤ length s → n ≤ length s - i → free ≡ is_free e (take (i + n - i) (drop i s)) → free ≡ true
+      → On s at e (i + n)
+  over_block n k h f t =
       let block = take n (drop i s) in
       let lacking : Free e block = eqb-true (until e block) (length block) (rw add-sub_cancel_left at (sym f ∙ t)) in
       let long : length block ≡ n = length-take-le n (drop i s) (rw length-drop (omega arith)) in
       let on : until e (drop i s) ≡ n + until e (drop (i + n) s) =
       ap (until e) (sym (take-append-drop n (drop i s))) ∙ until_past e block (drop n (drop i s)) lacking ∙ rw (long, drop-drop n i s) in
       record { same = omega (arith, on, v.same) }
-
-  pub from_here : {r : ℕ} → r ≡ i + until e (drop i s) → r ≡ at + until e (drop at s)
-  from_here q = q ∙ v.same

@@ -3,4 +3,5 @@ pub mod Runs
 pub mod Blocks
 pub mod Small
 pub mod Turn
+pub mod Eight
 pub mod Rows

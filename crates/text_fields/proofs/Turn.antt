@@ -1,7 +1,7 @@
 -- One field read, and one field more: what is left to read comes to the same from where the turn leaves off. For fields of either form.
 -- Assumes nothing.
 use Prim.Native.Nat.{ℕ, suc, ◌+◌, ◌-◌, ◌≤◌, ◌<◌}
-use native.Mathlib.Nat.{add-sub_cancel_left, sub-zero}
+use native.Mathlib.Nat.{add-sub_cancel_left}
 use native.Mathlib.Numerals.{add-one}
 use native.Mathlib.Omega.{arith}
 use mathlib.Core.Bool.{true, false}
@@ -60,10 +60,6 @@ pub record Left (form : Form) (n i : ℕ) (values s : List ℕ) (at from : ℕ) 
   pub small : Small (most form) values
   pub long : length values ≡ normal_width
   pub few : i ≤ n
-
-pub begin : (form : Form) (n : ℕ) (values s : List ℕ) (at : ℕ) → Small (most form) values → length values ≡ normal_width
-    → Left form n 0 values s at at
-begin form n values s at h e = record { same = rw sub-zero; small = h; long = e; few = omega arith }
 
 module _ {form : Form} {n i : ℕ} {values s : List ℕ} {at from : ℕ} (v : Left form n i values s at from) where
   module _ (h : i < n) {r : Field} (d : ReadField form s at r) where

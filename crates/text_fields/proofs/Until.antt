@@ -3,13 +3,14 @@ use Prim.Native.Nat.{ℕ, zero, suc, ◌+◌, ◌≤◌, ◌<◌}
 use native.Mathlib.Nat.{le_of_suc-le-suc, not-suc-le-zero}
 use native.Mathlib.Numerals.{add-one}
 use native.Mathlib.Omega.{arith}
-use borrow.Author.Tests.{eq-eqb, eqb-false, eqb-true, lt-leb, ne_eqb}
-use mathlib.Core.Bool.{Bool, true, false}
+use borrow.Author.Tests.{eq-eqb, eqb-false, eqb-true, lt-leb, ne_eqb, not-true}
+use mathlib.Core.Bool.{Bool, true, false, ◌&&◌, not}
 use mathlib.Core.List.{List, [], ◌∷◌}
-use mathlib.Core.Path.{◌≡◌, refl}
+use mathlib.Core.Path.{◌≡◌, refl, sym, ◌∙◌}
 use lib.Dec.{eqb, leb-suc-suc, leb-zero}
 use lib.ListN.{drop, drop_of_length-le, get_or, length, take}
 use lib.Seq.{drop-cons}
+use Rattle.base_words.proofs.Said.{all_l, all_r}
 use Rattle.text_fields.specs.Fields.{fields, fields_from, onto, until}
 
 module _ {e : ℕ} where
@@ -29,9 +30,6 @@ until_nil e = refl
 pub record On (s : List ℕ) (at e i : ℕ) : Type 0 where
   pub same : i + until e (drop i s) ≡ at + until e (drop at s)
 
-pub none_yet : (s : List ℕ) (at e : ℕ) → On s at e at
-none_yet s at e = record { same = refl }
-
 module _ {s : List ℕ} {at e i : ℕ} (v : On s at e i) where
   pub on : i < length s → (get_or s i 0 ≡ e → ⊥) → On s at e (i + 1)
   on h p =
@@ -47,6 +45,26 @@ module _ {s : List ℕ} {at e i : ℕ} (v : On s at e i) where
   end h =
       let f = rw (drop_of_length-le s h, until_nil e) at v.same in
       omega arith
+
+zero_by : (e b : ℕ) (s : List ℕ) (t : Bool) → eqb b e ≡ t → eqb b e ≡ eqb (until e (b ∷ s)) 0
+zero_by e b s true q = rw (until_here s (eqb-true _ _ q)) q
+zero_by e b s false q = rw (until_on s (eqb-false _ _ q)) (q ∙ sym (ne_eqb _ _ (λ (z : suc (until e s) ≡ 0). omega arith)))
+
+-- whether a tab stands at a byte, and past the last one
+pub tab_there : (s : List ℕ) (at : ℕ) → at < length s → eqb (get_or s at 0) 9 ≡ eqb (until 9 (drop at s)) 0
+tab_there s at h = rw (drop-cons s at 0 h) (zero_by 9 (get_or s at 0) (drop (suc at) s) (eqb (get_or s at 0) 9) refl)
+
+pub line_over : (s : List ℕ) (at : ℕ) → length s ≤ at → true ≡ eqb (until 9 (drop at s)) 0
+line_over s at h = rw (drop_of_length-le s h, until_nil 9)
+
+-- a byte that is no tab, and a tab
+pub tab_second : (s : List ℕ) → 1 < length s → (not (eqb (get_or s 0 0) 9) && eqb (get_or s 1 0) 9) ≡ true → 1 ≡ 0 + until 9 (drop 0 s)
+tab_second [] h e = absurd (omega arith)
+tab_second (b ∷ []) h e = absurd (omega arith)
+tab_second (b ∷ c ∷ s) h e =
+    let one : eqb b 9 ≡ false = not-true _ (all_l (not (eqb b 9)) (eqb c 9) e) in
+    let two : eqb c 9 ≡ true = all_r (not (eqb b 9)) (eqb c 9) e in
+    rw (until_on (c ∷ s) (eqb-false _ _ one), until_here s (eqb-true _ _ two)) (omega arith)
 
 from_cons : (b : ℕ) (s : List ℕ) (k : ℕ) → fields_from (b ∷ s) (suc k) ≡ fields_from s k
 unfolding fields_from

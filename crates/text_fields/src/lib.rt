@@ -137,6 +137,7 @@ fn first_end(line: &[u8]) -> usize
 }
 
 // The letter that a line's first field is.
+#[tactic(auto, using(crate::proofs::Rows::one_byte, crate::proofs::Rows::no_letter))]
 pub fn line_letter(line: &[u8]) -> Letter
     ensures { result ≡ line_letter line.now }
 {

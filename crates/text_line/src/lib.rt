@@ -1,5 +1,7 @@
 // A line of the text form: whether its letter is known and in order, its fields are well formed and its tables have
 // room, and what it adds to them.
+#![tactic(auto)]
+
 ghost use Rattle.std.specs.Prelude.{◌≡◌, ◌+◌, ◌≤◌, ltb, length};
 ghost use Rattle.base_places.specs.Places.{normal_width};
 ghost use Rattle.text_fields.specs.Got.{Small, most};

@@ -1,5 +1,7 @@
 // A text that arrives in portions, read line by line into tables. What is carried from one portion to the next is a reader, and
 // the bytes of the line that has not ended.
+#![tactic(auto)]
+
 ghost use Rattle.std.specs.Prelude.{◌≡◌, false, ◌∷◌, [], ◌++◌, ◌+◌, ◌≤◌, ◌<◌, min, length};
 ghost use Rattle.text_fields.specs.Fields.{Free};
 ghost use Rattle.base_places.specs.Lengths.{most_in_line};

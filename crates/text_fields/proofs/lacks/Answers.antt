@@ -1,5 +1,4 @@
 -- `text_fields::lacks` meets its contract. What is left to look at comes to the same at each turn. Assumes nothing.
-use Prim.Native.Nat.{◌-◌}
 use borrow.Author.Rules.{rules}
 use Rattle.text_fields.proofs.Blocks.{clear_all, clear_on}
 use Rattle.text_fields.proofs.lacks.Goals as goal

@@ -1,5 +1,7 @@
+-- `text_fields::letter_of` meets its contract. Each letter, and any other byte. Assumes nothing.
 use mathlib.Core.Path.{refl}
-use borrow.Author.Tests.{ne_eqb}
+use native.Mathlib.Omega.{arith}
+use Rattle.std.proofs.lemmas.Grind.{common_steps}
 use Rattle.text_fields.specs.Letters.{letter_of}
 use Rattle.text_fields.proofs.letter_of.Goals as goal
 
@@ -25,6 +27,4 @@ returns-in-83 c = rw c.in-83.is refl
 
 pub returns-in_default : goal.returns-in_default
 unfolding letter_of
-returns-in_default c =
-    let r = c.in_default.rest in
-    rw (ne_eqb _ 66 r.0.0.0.0.1, ne_eqb _ 67 r.0.0.0.1, ne_eqb _ 78 r.0.0.1, ne_eqb _ 84 r.0.1, ne_eqb _ 83 r.1)
+returns-in_default c = grind (arith, common_steps)

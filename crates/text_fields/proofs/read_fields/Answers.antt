@@ -1,4 +1,4 @@
-use Prim.Native.Nat.{◌-◌}
+-- `text_fields::read_fields` meets its contract. What is left to read comes to the same at each turn. Assumes nothing.
 use Rattle.text_fields.proofs.Turn.{all_got, stop, turn}
 use Rattle.text_fields.proofs.read_fields.Goals as goal
 

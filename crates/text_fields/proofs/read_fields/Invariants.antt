@@ -1,3 +1,4 @@
+-- `text_fields::read_fields` meets its contract. What is left to read comes to the same at each turn. Assumes nothing.
 use Prim.Native.Nat.{◌-◌}
 use Rattle.text_fields.proofs.Turn.{Left}
 use Rattle.text_fields.proofs.read_fields.Given as goal

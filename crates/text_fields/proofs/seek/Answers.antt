@@ -1,4 +1,4 @@
-use Prim.Native.Nat.{◌-◌}
+-- `text_fields::seek` meets its contract. No byte that was passed is the one that is looked for. Assumes nothing.
 use native.Mathlib.Omega.{arith}
 use Rattle.text_fields.proofs.Until.{end, here, on}
 use Rattle.text_fields.proofs.seek.Goals as goal

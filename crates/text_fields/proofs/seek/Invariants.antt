@@ -1,6 +1,7 @@
+-- `text_fields::seek` meets its contract. No byte that was passed is the one that is looked for. Assumes nothing.
 use Prim.Native.Nat.{◌-◌, ◌≤◌}
 use lib.ListN.{length}
-use Rattle.text_fields.proofs.Until.{On, end}
+use Rattle.text_fields.proofs.Until.{On}
 use Rattle.text_fields.proofs.seek.Given as goal
 
 abbrev pub invariant-loop-i : goal.invariant-loop-i
