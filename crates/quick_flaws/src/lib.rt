@@ -1,5 +1,7 @@
 // What is wrong with a contact. Where nothing is, that stays so from step to step, so that it is asked once. The tests of 8
 // and 9 come one after the other here, where step_values makes all at once: a contact's first step in a list waits for them.
+#![tactic(auto)]
+
 ghost use Rattle.std.specs.Prelude.{◌≡◌, false};
 ghost use Rattle.step_shape.specs.Shape.{wrong_count};
 ghost use Rattle.step_values.specs.Values.{floor_moves, head_out, not_finite, out_of_range, point_out};

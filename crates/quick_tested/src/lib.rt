@@ -1,5 +1,7 @@
 // Number 10 by one test: what a step on a contact without a flaw would write is finite exactly where the six numbers of the
 // velocities that it leaves are; and one sum of the six tells that, but for sums that pass the largest float.
+#![tactic(auto)]
+
 ghost use Rattle.std.specs.Prelude.{◌≡◌, true};
 ghost use Rattle.elem_leaves.specs.Finite.{finite};
 ghost use Rattle.step_values.specs.Values.{not_finite_vels};

@@ -1,5 +1,7 @@
 // A line of fields, and the lines of one number or two: E, R and X. Written into a lent buffer as far as it has room.
 // Floats come as the bits that are printed. Each function answers the place after what it wrote, or the buffer's end.
+#![tactic(auto)]
+
 ghost use Rattle.std.specs.Prelude.{◌≡◌, [], ◌∷◌, ◌≤◌, min, length};
 ghost use Rattle.text_digits.specs.Digits.{dec_field, hex_field};
 ghost use Rattle.text_digits.specs.Wrote.{Wrote};

@@ -13,4 +13,4 @@ returns-then-is_bad c =
 
 pub returns : goal.returns
 returns c =
-    end_whole _ _ _ (omega arith) (c.if1.false) (c.is-bad.ensures) (c.if2.false) (c.settle-t.ensures) (c.last_line.ensures) (c.close-2.ensures) (omega arith)
+    end_whole _ _ _ (omega arith) (c.if-over.false) (c.is_bad.ensures) (c.if-is_bad.false) (c.settle-t.ensures) (c.last_line.ensures) (c.close-2.ensures) (omega arith)

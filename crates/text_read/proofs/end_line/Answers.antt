@@ -11,4 +11,4 @@ returns-then-len-eq0 c = search end_from
 
 pub returns : goal.returns
 returns c =
-    end_held _ _ _ (c.before.before.before.before.before.before.before.before.before.before.before.before.before.before.before.before.before.before.before.before.before.before.before.before.before.before.before.before.requires.0) _ (c.before.before.before.before.before.before.before.before.before.before.before.before.before.before.before.before.before.before.before.before.before.before.before.before.before.before.before.before.requires.1) (c.before.before.before.before.before.before.before.before.before.before.before.before.before.before.before.before.before.before.before.before.before.before.before.before.before.before.before.before.requires.2) (omega arith) (c.hold.ensures) (c.read_line-read-2.ensures) (c.after_line-2.ensures)
+    end_held _ _ _ (c.requires.0) _ (c.requires.1) (c.requires.2) (omega arith) (c.hold.ensures) (c.read_line-read-2.ensures) (c.after_line-2.ensures)

@@ -19,4 +19,4 @@ returns-then-over-is_bad c = untaken _ _ _ _ c.is_bad.ensures (search enough) (o
 
 pub returns : goal.returns
 returns c =
-    took _ _ _ _ (search rules) (c.is-bad.ensures) (search rules) (c.settle-t.ensures) (c.feed.ensures) (omega arith)
+    took _ _ _ _ (search rules) (c.is_bad.ensures) (search rules) (c.settle-t.ensures) (c.feed.ensures) (omega arith)
