@@ -1,6 +1,8 @@
 // Runs single steps on copies, by the plain engine's code: every choice of what can be wrong with a step, and the
 // floor's side. A line is what was tried, the answer and the branch; the file `stdout` beside src/ has what document 01
 // says. (What each kind does, and both sides of each edge, is tried by the host package, on the call.)
+#![tactic(auto)]
+
 use elem_leaves::Vec2;
 use elem_normal::ContactConstraintNormalPart;
 use elem_tangent::ContactConstraintTangentPart;
