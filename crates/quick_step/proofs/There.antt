@@ -112,7 +112,9 @@ module _ (bodies : List Float) (numbers : List ℕ) (floats : List Float) (k : �
   pub has_bodies : wrong_bodies (contact_at numbers floats k).head (rows body_width bodies) ≡ false
   has_bodies = bodies_right (rows body_width bodies) numbers floats k trust.sound
 
-  -- what `its_contact` asks
-  pub has_rows : (k < rows numbers_width numbers) × ((k < rows floats_width floats) × (wrong_count (contact_at numbers floats k).head ≡ false))
-  has_rows =
-      (numbers_there (rows body_width bodies) numbers floats k trust.sound, (has_floats, (passed (rows body_width bodies) (contact_at numbers floats k) trust.sound).count))
+  -- what else `its_contact` asks
+  pub has_numbers : k < rows numbers_width numbers
+  has_numbers = numbers_there (rows body_width bodies) numbers floats k trust.sound
+
+  pub has_count : wrong_count (contact_at numbers floats k).head ≡ false
+  has_count = (passed (rows body_width bodies) (contact_at numbers floats k) trust.sound).count

@@ -2,6 +2,8 @@
 // bodies finite; then it is trusted, and a step on it is worked without a look at its floats, on rows that are known to be
 // there, and tested once. Every other step is turned away without any work: a kind is worked in one arm alone, and no
 // second, slower way works it, which is what lets the compiler put the routines there.
+#![tactic(auto)]
+
 ghost use Rattle.std.specs.Prelude.{◌<◌, false, ◌≡◌};
 ghost use Rattle.base_places.specs.Places.{body_width, floats_width, numbers_width};
 ghost use Rattle.base_rows.specs.Rows.{rows};

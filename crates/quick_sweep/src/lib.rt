@@ -1,5 +1,7 @@
 // A list of steps, one after the other. A contact is looked at by the first step that names it; where it is trusted, a flag
 // says that it need not be looked at again. What a list comes to is the same without flags.
+#![tactic(auto)]
+
 ghost use Rattle.std.specs.Prelude.{◌≡◌};
 ghost use Rattle.base_words.specs.Choice.{if◌then◌else◌};
 ghost use Rattle.list_rules.specs.Sweep.{is_refused, step_on, sweep, swept, tables};

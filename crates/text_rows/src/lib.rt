@@ -1,5 +1,7 @@
 // The tables' lines, row by row, by one loop: A, B and I. Written into a lent buffer as far as it has room. Floats come
 // as the bits that are printed. Each function answers the place after what it wrote, or the buffer's end.
+#![tactic(auto)]
+
 ghost use Rattle.std.specs.Prelude.{◌≡◌, ◌*◌, ◌≤◌, ◌<◌, length};
 ghost use Rattle.text_digits.specs.Wrote.{Wrote};
 ghost use Rattle.base_places.specs.Places.{answer_width, body_width, floats_width};

@@ -1,0 +1,16 @@
+-- `quick_sweep::walk` meets its contract. After i steps the tables, the room and the count are those of the first i steps, and the flags are right. Assumes nothing.
+use Prim.Native.Nat.{◌-◌}
+use Rattle.quick_sweep.proofs.SoFar.{count_fits, go_on, gone, at_start}
+use Rattle.quick_sweep.proofs.walk.Goals as goal
+
+pub loop-i-init : goal.loop-i-init
+loop-i-init c = search at_start
+
+pub overflow_add-refused : goal.overflow_add-refused
+overflow_add-refused c = search count_fits
+
+pub loop-i-preserved : goal.loop-i-preserved
+loop-i-preserved c = search go_on
+
+pub returns : goal.returns
+returns c = search gone
