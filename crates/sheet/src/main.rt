@@ -3,8 +3,10 @@
 // said on standard error where the input cannot be read to its end or the answer not written.
 #![tactic(auto)]
 
-ghost use Rattle.std.specs.Prelude.{◌≡◌, ◌≤◌, length};
+ghost use Rattle.std.specs.Prelude.{◌≡◌, ◌≤◌, IfSome, IsTrue, length, take};
+ghost use Rattle.std.specs.Io.KnownBytes.{Appends, Consumes, IsAtEnd};
 ghost use Rattle.text_line.specs.Filled.{cells};
+ghost use Rattle.text_output.specs.Output.{output};
 ghost use Rattle.sheet.specs.Once.{AnsweredOnce, ReadOnce};
 
 use base_places::{
@@ -25,26 +27,35 @@ struct Onward {
     well: bool,
 }
 
-// Says on standard error what went wrong; where that cannot be written, there is nobody left to tell.
+// How many bytes were handed to be written, and whether they were.
+#[derive(Clone, Copy)]
+struct Written {
+    count: usize,
+    well: bool,
+}
+
+// Says what went wrong; where that cannot be written, there is nobody left to tell.
 fn say<E: Write>(errors: &mut E, message: &[u8]) {
     let _ = errors.write_all(message);
 }
 
 // Hands the first k bytes to be written, and answers how many that were.
-fn write_out<W: Write, E: Write>(output: &mut W, errors: &mut E, out: &[u8], k: usize) -> usize
+fn write_out<W: Write, E: Write>(to: &mut W, errors: &mut E, out: &[u8], k: usize) -> Written
     requires { k ≤ length out.now }
-    ensures { result ≡ k }
+    ensures count { result.count ≡ k }
+    ensures written { IsTrue result.well → Appends (W.contents to.old) (W.contents to.new) (take k out.now) }
 {
-    if output.write_all(&out[..k]).is_err() {
+    let well = to.write_all(&out[..k]).is_ok();
+    if !well {
         say(errors, b"sheet: the answer could not be written\n");
     }
-    k
+    Written { count: k, well }
 }
 
 // Reads once. A read of no bytes is the end, and none comes after it: at a terminal one more would wait for a second
 // Ctrl-D. Where the read fails, it is as if no byte was read.
 fn read_some<R: Read, E: Write>(
-    input: &mut R,
+    from: &mut R,
     errors: &mut E,
     k: Reader,
     portion: &mut [u8; PORTION],
@@ -54,11 +65,13 @@ fn read_some<R: Read, E: Write>(
     floats: &mut [u32; PROGRAM_CONTACTS * FLOATS_WIDTH],
     steps: &mut [u16; PROGRAM_STEPS * STEP_WIDTH],
 ) -> Onward
-    ensures { ReadOnce k line.old (cells bodies.old numbers.old floats.old steps.old) result
+    ensures once { ReadOnce k line.old (cells bodies.old numbers.old floats.old steps.old) result
         portion.new line.new
         (cells bodies.new numbers.new floats.new steps.new) }
+    ensures taken { Consumes (R.remaining from.old) (R.remaining from.new) (take result.read portion.new) }
+    ensures at_end { IsTrue result.well → result.read ≡ 0 → IsAtEnd (R.remaining from.new) }
 {
-    let Ok(n) = input.read(&mut *portion) else {
+    let Ok(n) = from.read(&mut *portion) else {
         say(errors, b"sheet: the input could not be read to its end\n");
         return Onward {
             reader: k,
@@ -79,7 +92,7 @@ fn read_some<R: Read, E: Write>(
 
 // The end of the input: its answer, handed to be written.
 fn answer<W: Write, E: Write>(
-    output: &mut W,
+    to: &mut W,
     errors: &mut E,
     k: Reader,
     line: &[u8; MOST_IN_LINE],
@@ -88,9 +101,10 @@ fn answer<W: Write, E: Write>(
     floats: &mut [u32; PROGRAM_CONTACTS * FLOATS_WIDTH],
     steps: &mut [u16; PROGRAM_STEPS * STEP_WIDTH],
     out: &mut [u8; LONGEST_OUTPUT],
-) -> usize
-    ensures { AnsweredOnce k line.now (cells bodies.old numbers.old floats.old steps.old)
-        out.old out.new result }
+) -> Written
+    ensures once { AnsweredOnce k line.now (cells bodies.old numbers.old floats.old steps.old)
+        out.old out.new result.count }
+    ensures written { IsTrue result.well → Appends (W.contents to.old) (W.contents to.new) (take result.count out.new) }
 {
     let reader = text_read::end(
         k,
@@ -101,14 +115,15 @@ fn answer<W: Write, E: Write>(
         &mut *steps,
     );
     let n = answer_read(reader, bodies, &*numbers, floats, &*steps, &mut *out);
-    write_out(output, errors, &*out, n)
+    write_out(to, errors, &*out, n)
 }
 
 // Portion after portion, each turn with what the one before left; then the end. A proved loop has to end, so this one counts
-// down. It never comes to 0: a text has at most 641 lines, each of at most 160 bytes, and ends before or is bad.
+// down. It never comes to 0: a text has at most 641 lines, each of at most 160 bytes, and ends before or is bad. Answers whether
+// all went well: then the text's output was written, and nothing else.
 fn answer_all<R: Read, W: Write, E: Write>(
-    input: &mut R,
-    output: &mut W,
+    from: &mut R,
+    to: &mut W,
     errors: &mut E,
     portion: &mut [u8; PORTION],
     line: &mut [u8; MOST_IN_LINE],
@@ -117,12 +132,15 @@ fn answer_all<R: Read, W: Write, E: Write>(
     floats: &mut [u32; PROGRAM_CONTACTS * FLOATS_WIDTH],
     steps: &mut [u16; PROGRAM_STEPS * STEP_WIDTH],
     out: &mut [u8; LONGEST_OUTPUT],
-) {
+) -> bool
+    ensures { IsTrue result → IfSome (R.remaining from.old)
+        (λ text. Appends (W.contents to.old) (W.contents to.new) (output text)) }
+{
     let mut k = text_read::begin();
     let mut turns: u64 = 2251799813685248;
     while 0 < turns {
         let on = read_some(
-            &mut *input,
+            &mut *from,
             &mut *errors,
             k,
             &mut *portion,
@@ -134,16 +152,16 @@ fn answer_all<R: Read, W: Write, E: Write>(
         );
         k = on.reader;
         if !on.more {
-            if on.well {
-                answer(
-                    output, errors, k, &*line, bodies, numbers, floats, steps, out,
-                );
+            if !on.well {
+                return false;
             }
-            return;
+            let handed = answer(to, errors, k, &*line, bodies, numbers, floats, steps, out);
+            return handed.well;
         }
         turns -= 1;
     }
     say(errors, b"sheet: the input is too long\n");
+    false
 }
 
 fn main(rt: HostRuntime) {
