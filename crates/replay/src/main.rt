@@ -3,7 +3,9 @@
 // where the file cannot be read to its end or a line not written.
 #![tactic(auto)]
 
-ghost use Rattle.std.specs.Prelude.{◌≡◌, ◌≤◌, length};
+ghost use Rattle.std.specs.Prelude.{◌≡◌, ◌≤◌, IfSome, IsTrue, length, take};
+ghost use Rattle.std.specs.Io.KnownBytes.{Appends, Consumes, IsAtEnd};
+ghost use Rattle.replay_days.specs.Judged.{judged};
 ghost use Rattle.replay_judge.specs.Carried.{buffers};
 ghost use Rattle.replay_judge.specs.Stands.{Finishes};
 ghost use Rattle.replay.specs.ReadOnce.{ReadOnce};
@@ -33,17 +35,18 @@ struct Onward {
     well: bool,
 }
 
-// Says on standard error what went wrong; where that cannot be written, there is nobody left to tell.
+// Says what went wrong; where that cannot be written, there is nobody left to tell.
 fn say<E: Write>(errors: &mut E, message: &[u8]) {
     let _ = errors.write_all(message);
 }
 
 // Hands the first k bytes to be written, and answers how many that were.
-fn write_out<W: Write, E: Write>(output: &mut W, errors: &mut E, told: &[u8], k: usize) -> Handed
+fn write_out<W: Write, E: Write>(to: &mut W, errors: &mut E, told: &[u8], k: usize) -> Handed
     requires { k ≤ length told.now }
-    ensures { result.count ≡ k }
+    ensures count { result.count ≡ k }
+    ensures written { IsTrue result.well → Appends (W.contents to.old) (W.contents to.new) (take k told.now) }
 {
-    let well = output.write_all(&told[..k]).is_ok();
+    let well = to.write_all(&told[..k]).is_ok();
     if !well {
         say(errors, b"replay: a day's line could not be written\n");
     }
@@ -52,8 +55,8 @@ fn write_out<W: Write, E: Write>(output: &mut W, errors: &mut E, told: &[u8], k:
 
 // Reads once, and tells of the days that end there. Where the read fails, it is as if no byte was read.
 fn replay_some<R: Read, W: Write, E: Write>(
-    input: &mut R,
-    output: &mut W,
+    from: &mut R,
+    to: &mut W,
     errors: &mut E,
     j: Judge,
     portion: &mut [u8; PORTION],
@@ -65,10 +68,13 @@ fn replay_some<R: Read, W: Write, E: Write>(
     out: &mut [u8; LONGEST_OUTPUT],
     told: &mut [u8; TOLD],
 ) -> Onward
-    ensures { ReadOnce j (buffers held.old bodies.old numbers.old floats.old steps.old) out.old told.old result
+    ensures once { ReadOnce j (buffers held.old bodies.old numbers.old floats.old steps.old) out.old told.old result
         portion.new (buffers held.new bodies.new numbers.new floats.new steps.new) out.new told.new }
+    ensures taken { Consumes (R.remaining from.old) (R.remaining from.new) (take result.read portion.new) }
+    ensures at_end { IsTrue result.well → result.read ≡ 0 → IsAtEnd (R.remaining from.new) }
+    ensures written { IsTrue result.well → Appends (W.contents to.old) (W.contents to.new) (take result.count told.new) }
 {
-    let Ok(n) = input.read(&mut *portion) else {
+    let Ok(n) = from.read(&mut *portion) else {
         say(errors, b"replay: the file could not be read to its end\n");
         return Onward {
             judge: j,
@@ -83,7 +89,7 @@ fn replay_some<R: Read, W: Write, E: Write>(
     );
     let judge = t.judge;
     let at = t.at;
-    let handed = write_out(output, errors, &*told, at);
+    let handed = write_out(to, errors, &*told, at);
     let count = handed.count;
     let well = handed.well;
     Onward {
@@ -97,7 +103,7 @@ fn replay_some<R: Read, W: Write, E: Write>(
 
 // The end of the file.
 fn replay_end<W: Write, E: Write>(
-    output: &mut W,
+    to: &mut W,
     errors: &mut E,
     j: Judge,
     held: &mut [u8; MOST_IN_LINE],
@@ -108,18 +114,20 @@ fn replay_end<W: Write, E: Write>(
     out: &mut [u8; LONGEST_OUTPUT],
     told: &mut [u8; TOLD],
 ) -> Handed
-    ensures { Finishes j (buffers held.old bodies.old numbers.old floats.old steps.old) out.old told.old told.new result.count }
+    ensures finishes { Finishes j (buffers held.old bodies.old numbers.old floats.old steps.old) out.old told.old told.new result.count }
+    ensures written { IsTrue result.well → Appends (W.contents to.old) (W.contents to.new) (take result.count told.new) }
 {
     let k = judge_end(j, held, bodies, numbers, floats, steps, out, &mut *told);
-    write_out(output, errors, &*told, k)
+    write_out(to, errors, &*told, k)
 }
 
 // Portion after portion, each turn with what the one before left; then the end. A proved loop has to end, and nothing
 // says that a file does: so the loop counts down from a number that no run uses up. With 2^51 portions of 4,096 bytes a
-// day's number stays below 2^63.
+// day's number stays below 2^63. Answers whether all went well: then what is to be said of the file's days was written, and
+// nothing else.
 fn replay_all<R: Read, W: Write, E: Write>(
-    input: &mut R,
-    output: &mut W,
+    from: &mut R,
+    to: &mut W,
     errors: &mut E,
     portion: &mut [u8; PORTION],
     held: &mut [u8; MOST_IN_LINE],
@@ -129,13 +137,16 @@ fn replay_all<R: Read, W: Write, E: Write>(
     steps: &mut [u16; PROGRAM_STEPS * STEP_WIDTH],
     out: &mut [u8; LONGEST_OUTPUT],
     told: &mut [u8; TOLD],
-) {
+) -> bool
+    ensures { IsTrue result → IfSome (R.remaining from.old)
+        (λ file. Appends (W.contents to.old) (W.contents to.new) (judged file)) }
+{
     let mut j = begin();
     let mut turns: u64 = 2251799813685248;
     while 0 < turns {
         let on = replay_some(
-            &mut *input,
-            &mut *output,
+            &mut *from,
+            &mut *to,
             &mut *errors,
             j,
             &mut *portion,
@@ -149,16 +160,18 @@ fn replay_all<R: Read, W: Write, E: Write>(
         );
         j = on.judge;
         if !on.more {
-            if on.well {
-                replay_end(
-                    output, errors, j, held, bodies, numbers, floats, steps, out, told,
-                );
+            if !on.well {
+                return false;
             }
-            return;
+            let handed = replay_end(
+                to, errors, j, held, bodies, numbers, floats, steps, out, told,
+            );
+            return handed.well;
         }
         turns -= 1;
     }
     say(errors, b"replay: the file is too long\n");
+    false
 }
 
 fn main(rt: HostRuntime) {
