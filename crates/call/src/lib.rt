@@ -1,5 +1,7 @@
 // The call that the workshop's programs make: tables, a list of steps and room for answers are lent,
 // and the steps are done one by one, unless the whole call is refused. It asks nothing of its caller.
+#![tactic(auto)]
+
 ghost use Rattle.std.specs.Prelude.{◌≡◌};
 ghost use Rattle.list_rules.specs.Sweep.{tables};
 ghost use Rattle.call_rules.specs.Call.{end, lend};

@@ -1,5 +1,7 @@
 // A recorded output beside the output, byte after byte: of a recorded line no more is kept than whether it is empty, one
 // byte or longer, and how far it agrees with the output's next line. And the lines that tell of a day.
+#![tactic(auto)]
+
 ghost use Rattle.std.specs.Prelude.{◌≡◌, ◌++◌, take};
 ghost use Rattle.text_digits.specs.Digits.{dec_field};
 ghost use Rattle.text_digits.specs.Wrote.{Wrote};

@@ -1,4 +1,6 @@
 // What is written of a night that was read: the call on floats made of its patterns, and then its lines.
+#![tactic(auto)]
+
 ghost use Rattle.std.specs.Prelude.{◌≡◌, [], ◌*◌, length, take};
 ghost use Rattle.text_digits.specs.Wrote.{Wrote};
 ghost use Rattle.text_output.specs.Answer.{answer, floats_of, lines, prints, written, zeros};

@@ -1,5 +1,7 @@
 // The text program: from what a reader carries to the output's bytes, and from a whole text's bytes, by tables that start with
 // every row zero.
+#![tactic(auto)]
+
 ghost use Rattle.std.specs.Prelude.{◌≡◌, take};
 ghost use Rattle.text_line.specs.Filled.{cells, night_of};
 ghost use Rattle.text_digits.specs.Wrote.{Wrote};
