@@ -1,5 +1,7 @@
 // The call, and the reader of a text in portions, for programs in C and in Rust, with a reader as words, which a host keeps
 // between its calls. The crate romaludiv_c exports the four public functions.
+#![tactic(auto)]
+
 ghost use Rattle.std.specs.Prelude.{◌≡◌, ◌≤◌};
 ghost use Rattle.list_rules.specs.Sweep.{tables};
 ghost use Rattle.call_rules.specs.Call.{end as Call·end};

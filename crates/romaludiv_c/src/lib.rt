@@ -31,9 +31,7 @@ pub extern "C" fn romaludiv_call(
 ) -> u16
     ensures { Demand2 (lend (tables bodies.old numbers.now floats.old) steps.now room.old) budget (Call·end result done.new refused.new (tables bodies.new numbers.now floats.new) room.new) }
 {
-    romaludiv::romaludiv_call(
-        bodies, numbers, floats, steps, room, budget, done, refused,
-    )
+    romaludiv::romaludiv_call(bodies, numbers, floats, steps, room, budget, done, refused)
 }
 
 // As `text_read::begin`: nothing has been read.
