@@ -1,3 +1,0 @@
-pub mod Pick
-pub mod Said
-pub mod Each

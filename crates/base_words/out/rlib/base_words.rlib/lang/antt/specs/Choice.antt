@@ -1,6 +1,0 @@
--- A choice by a test, as the documents write it: "if .. then .. else ..". A chain of choices leans to the right. Assumes nothing.
-use Rattle.std.specs.Prelude.{Bool, cond}
-
-infixr 1 if◌then◌else◌
-abbrev pub if◌then◌else◌ : {A : Type 0} → Bool → A → A → A
-if test then x else y = cond test x y

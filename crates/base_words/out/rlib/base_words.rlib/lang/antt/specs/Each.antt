@@ -1,6 +1,0 @@
--- What holds of each of a list. Assumes nothing.
-use Rattle.std.specs.Prelude.{List, [], ◌∷◌}
-
-abbrev pub Each : {A : Type 0} → (A → Type 0) → List A → Type 0
-Each P [] = Unit
-Each P (a ∷ l) = P a × Each P l
