@@ -1,6 +1,8 @@
 // How wide the rows of the lent stretches are, where a point's loads stand among its floats, how much a call and the text
 // program take, how long a line and an output can be, and how far a count goes. specs/Places.antt and specs/Lengths.antt say
 // the same for definitions; every other file has these names, and no number of its own.
+#![tactic(auto)]
+
 ghost use Rattle.std.specs.Prelude.{◌≡◌};
 ghost use Rattle.base_places.specs.Places.{only};
 ghost use Rattle.base_places.specs.Places.{place as Places·place};

@@ -1,1 +1,2 @@
 // No code: loads never pull, whatever the list. The statements are in specs/.
+#![tactic(auto)]

@@ -1,2 +1,3 @@
 // No code: what a done step leaves in the tables, read again, is what it worked out. The statements
 // are in specs/.
+#![tactic(auto)]

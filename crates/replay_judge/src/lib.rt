@@ -1,6 +1,8 @@
 // A file of recorded nights, judged as its bytes come, in portions of any length: what a program carries from one
 // portion to the next, and what it tells of each day. A day's input is read as it comes, into the program's tables; held
 // beside them are the bytes of a line that has not ended, and the day's output.
+#![tactic(auto)]
+
 ghost use Rattle.std.specs.Prelude.{◌≡◌, [], ◌∷◌, ◌≤◌, ◌<◌, length, take};
 ghost use Rattle.text_digits.specs.Wrote.{Wrote};
 ghost use Rattle.text_fields.specs.Fields.{Free};

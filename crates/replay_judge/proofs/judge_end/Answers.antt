@@ -1,0 +1,11 @@
+-- `replay_judge::judge_end` meets its contract. The buffer has room for what the end tells. Assumes nothing.
+use Rattle.replay_judge.proofs.Finished.{finishes}
+use borrow.Author.Rules.{rules}
+use Rattle.replay_judge.proofs.judge_end.Goals as goal
+
+pub returns : goal.returns
+returns c =
+    record {
+      finishes = finishes _ _ _ _ (search rules) (c.end_file.ensures);
+      upper_bound = search rules;
+    }
