@@ -1,21 +1,22 @@
 # shellcheck shell=bash
 # For ./sheet, ./replay and the scripts that run them many times; read with `source`, after `unset CDPATH`.
 #
-# A program is started only if rt passed it as it stands here: proved it from these sources, linked it, ran it, and found what
-# its crate's file `stdout` has. rt then leaves a stamp, target/stamp/NAME, which it takes away before it builds again. To ask
-# rt takes a second, so what it passed is kept in target/passed/NAME: the stamp, a sum of the program, a sum of the sources.
-# Dates and owners do not matter. A newer rt alone is not noticed: the gate proves anew.
+# A program is started only if rt passed it as it stands here: proved it from these sources, linked it and ran it, and it wrote
+# what its crate's file `stdout` has. To ask rt takes seconds, so what it passed is kept in target/passed/NAME: a sum of the
+# program, a sum of the sources. Dates and owners do not matter. A newer rt alone is not noticed: the gate proves anew.
 root=$(cd "${BASH_SOURCE[0]%/*}" && pwd -P)
+
+# The program, where rt links it. A program that rt did not link is none to it: rt keeps a sum of what it linked.
+program() { echo "$root/crates/$1/out/$1"; } # NAME
 
 # A sum of the names and contents of all that a check looks at.
 sources() {
-    (cd "$root" && find crates crates.txt -name must-fail -prune -o -type f -exec sha256sum {} + | LC_ALL=C sort | sha256sum)
+    (cd "$root" && find crates crates.txt \( -name must-fail -o -name out \) -prune -o -type f -exec sha256sum {} + | LC_ALL=C sort | sha256sum)
 }
 
-# rt's stamp and a sum of the program, a line each, where both are there.
+# A sum of the program, where it is there.
 built() { # NAME
-    local program=$root/target/bin/$1 stamp=$root/target/stamp/$1
-    [ -x "$program" ] && [ -f "$stamp" ] && echo "$(<"$stamp")" && sha256sum <"$program"
+    [ -x "$(program "$1")" ] && sha256sum <"$(program "$1")"
 }
 
 # Whether rt passed the program as it stands.
@@ -24,24 +25,16 @@ good() { # NAME
     [ -f "$root/target/passed/$1" ] && kept=$(<"$root/target/passed/$1") && now=$(built "$1" && sources) && [ "$kept" = "$now" ]
 }
 
-# Whether the program is none that rt stamped: it is missing, was written after the stamp, or is another than the one that was
-# kept with this stamp. rt looks at the sources alone and would pass it.
-foreign() { # NAME
-    local program=$root/target/bin/$1 stamp=$root/target/stamp/$1 kept
-    [ ! -x "$program" ] || [ "$program" -nt "$stamp" ] || {
-        kept=$(head -n 2 "$root/target/passed/$1" 2>/dev/null)
-        [ "${kept%%$'\n'*}" = "$(<"$stamp")" ] && [ "$kept" != "$(built "$1")" ]
-    }
-}
-
-# The first file or folder that rt would have to write and may not. Where it cannot write its logs, rt goes by the old ones.
+# The first file or folder that rt would have to write and may not: in a crate's out/, or the crate's folder where out/ is to come.
 barred() {
-    if [ ! -e "$root/target" ]; then
-        if [ ! -w "$root" ]; then echo "$root"; fi
-        return
-    fi
-    find -H "$root/target" -maxdepth 0 ! -writable -print -quit
-    find "$root"/target/{bin,log,obj,passed,rlib,stamp} ! -type l ! -writable -print -quit 2>/dev/null || true
+    local crate
+    for crate in "$root"/crates/*/; do
+        if [ -e "${crate}out" ]; then
+            find -H "${crate}out" ! -type l ! -writable -print -quit 2>/dev/null || true
+        elif [ ! -w "$crate" ]; then
+            echo "${crate%/}"
+        fi
+    done
 }
 
 # Says so where nothing can be built here, and what to do.
@@ -76,22 +69,21 @@ unlock() {
     exec 9<&-
 }
 
-# Has rt prove, build and run the program, and keeps what it passed; under the lock.
+# Has rt prove, build and run the program, holds what it wrote to its file `stdout`, and keeps what passed; under the lock.
 check() { # NAME
     local before after
     able "$1" || return
     echo "$1: proving and building the program; the first time this takes some minutes" >&2
     before=$(sources)
-    if foreign "$1"; then rm -f "$root/target/stamp/$1" || return; fi
-    if ! (cd "$root" && rt check "$1") </dev/null >&2 || ! after=$(built "$1"); then
-        echo "$1: rt did not pass the program: see above" >&2
+    if ! (set -o pipefail && cd "$root/crates/$1" && rt run <stdin | cmp - stdout) >&2 || ! after=$(built "$1"); then
+        echo "$1: rt did not pass the program, or it does not write what crates/$1/stdout has: see above" >&2
         return 1
     fi
     (mkdir -p "$root/target/passed" && printf '%s\n' "$after" "$before" >"$root/target/passed/$1") 2>/dev/null ||
         echo "$1: rt passed the program, but target/passed/$1 could not be written: the next call asks rt again" >&2
 }
 
-# Proves and builds target/bin/NAME where rt has not passed it as it stands, and says so on standard error.
+# Proves and builds the program where rt has not passed it as it stands, and says so on standard error.
 build() { # NAME
     local status=0
     if good "$1"; then return; fi
@@ -101,11 +93,11 @@ build() { # NAME
     return "$status"
 }
 
-# The toolchain's folder, two above where rt says that its guide starts; none where rt names no absolute path.
+# The toolchain's folder, where rt says that its guide starts; none where rt names no absolute path.
 kit_folder() {
     local guide
     guide=$(rt doc </dev/null 2>/dev/null) || return
-    case $guide in /*/*/*) echo "${guide%/*/*}" ;; *) return 1 ;; esac
+    case $guide in /*/*) echo "${guide%/*}" ;; *) return 1 ;; esac
 }
 
 # Sets `command` to the words that run a built program. It is for x86-64: it runs with the toolchain's own C library, and
@@ -113,7 +105,7 @@ kit_folder() {
 words() { # PROGRAM
     local kit
     command=()
-    if kit=$(kit_folder); then kit=$kit/on/$(uname -m)/toolchain; fi
+    if kit=$(kit_folder); then kit=$kit/toolchain; fi
     if [ -n "$kit" ] && [ -x "$kit/bin/qemu-x86_64" ]; then command=("$kit/bin/qemu-x86_64"); fi
     if [ -n "$kit" ] && [ -x "$kit/lib/ld-linux-x86-64.so.2" ]; then
         command+=("$kit/lib/ld-linux-x86-64.so.2" --library-path "$kit/lib")

@@ -1,12 +1,15 @@
 // Runs single steps on copies, by the plain engine's code: every choice of what can be wrong with a step, and the
 // floor's side. A line is what was tried, the answer and the branch; the file `stdout` beside src/ has what document 01
 // says. (What each kind does, and both sides of each edge, is tried by the host package, on the call.)
+#![tactic(auto)]
+
 use elem_leaves::Vec2;
 use elem_normal::ContactConstraintNormalPart;
 use elem_tangent::ContactConstraintTangentPart;
 use elem_velocity::{SolverVel, Vels};
-use libc::STDOUT_FILENO;
 use plain_step::step;
+use std::io;
+use std::io::Write;
 use step_contact::{Contact, ContactHead, ContactPoint, FLOOR};
 
 const ROWS: usize = 2;
@@ -110,23 +113,17 @@ fn with_second(mut vels: Vels, turning: f32) -> Vels {
     vels
 }
 
-fn put_number(n: u16) {
-    if n < 10 {
-        let digit = [48 + (n as u8)];
-        io::write_all(STDOUT_FILENO, &digit);
-    } else {
-        io::write_all(STDOUT_FILENO, b"10");
-    }
-}
-
-fn show(what: &[u8], contact: Contact, kind: u16, vels: Vels) {
+fn show<W: Write>(
+    to: &mut W,
+    what: &str,
+    contact: Contact,
+    kind: u16,
+    vels: Vels,
+) -> io::Result<()> {
     let outcome = step(contact, kind, vels, ROWS);
-    io::write_all(STDOUT_FILENO, what);
-    io::write_all(STDOUT_FILENO, b"\t");
-    put_number(outcome.answer());
-    io::write_all(STDOUT_FILENO, b"\t");
-    put_number(outcome.branch());
-    io::write_all(STDOUT_FILENO, b"\n");
+    let answer = outcome.answer();
+    let branch = outcome.branch();
+    writeln!(to, "{what}\t{answer}\t{branch}")
 }
 
 // Kinds 1, 4 and 5, of which the last has no routine.
@@ -138,10 +135,11 @@ fn kind_of(n: u16) -> u16 {
     }
 }
 
-fn put_if(wrong: bool, what: &[u8]) {
+fn put_if<W: Write>(to: &mut W, wrong: bool, what: &str) -> io::Result<()> {
     if wrong {
-        io::write_all(STDOUT_FILENO, what);
+        write!(to, "{what}")?;
     }
+    Ok(())
 }
 
 fn choose(wrong: bool, right: f32, other: f32) -> f32 {
@@ -154,7 +152,7 @@ fn choose_number(wrong: bool, right: u16, other: u16) -> u16 {
 
 // One choice of what is wrong, by the digits of n: where several conditions hold, the lowest number
 // is given. (6 and 7 cannot hold together.)
-fn choice(n: u16) {
+fn choice<W: Write>(to: &mut W, n: u16) -> io::Result<()> {
     let kind = kind_of(n / 32);
     let nowhere = n / 16 % 2 == 1;
     let three = n / 8 % 2 == 1;
@@ -166,33 +164,34 @@ fn choice(n: u16) {
     let rubbing = with_friction(counted, choose(broken, 0.0, nan()));
     let pushed = with_impulse(rubbing, choose(pulls, 0.0, -1.0));
     let contact = with_r(pushed, choose(hard, 1.0, 2.0));
-    io::write_all(STDOUT_FILENO, b"kind ");
-    put_number(kind);
-    put_if(nowhere, b", no such body");
-    put_if(three, b", three points");
-    put_if(broken, b", a NaN");
-    put_if(pulls, b", a pull");
-    put_if(hard, b", too hard");
-    show(b"", contact, kind, moving(0.0, choose(hard, 2.0, LARGE)));
+    write!(to, "kind {kind}")?;
+    put_if(&mut *to, nowhere, ", no such body")?;
+    put_if(&mut *to, three, ", three points")?;
+    put_if(&mut *to, broken, ", a NaN")?;
+    put_if(&mut *to, pulls, ", a pull")?;
+    put_if(&mut *to, hard, ", too hard")?;
+    show(to, "", contact, kind, moving(0.0, choose(hard, 2.0, LARGE)))
 }
 
-fn choices() {
+fn choices<W: Write>(to: &mut W) -> io::Result<()> {
     for n in 0..96 {
-        choice(n);
+        choice(&mut *to, n)?;
     }
+    Ok(())
 }
 
 // What is given for the floor is neither read nor refused; of a real body it is.
-fn floor_side() {
+fn floor_side<W: Write>(to: &mut W) -> io::Result<()> {
     let wild = with_second(falling(), nan());
-    show(b"a NaN given for the floor", on_floor(), 1, wild);
+    show(&mut *to, "a NaN given for the floor", on_floor(), 1, wild)?;
     let two_bodies = with_bodies(on_floor(), 0, 1);
-    show(b"a NaN at a real second body", two_bodies, 1, wild);
+    show(&mut *to, "a NaN at a real second body", two_bodies, 1, wild)?;
     let pair = with_rhs(on_two_points(), -5.0, -3.0);
-    show(b"a pair", pair, 4, moving(0.0, 0.0));
+    show(to, "a pair", pair, 4, moving(0.0, 0.0))
 }
 
-fn main() {
-    choices();
-    floor_side();
+fn main(rt: HostRuntime) -> io::Result<()> {
+    let mut out = rt.stdout();
+    choices(&mut out)?;
+    floor_side(&mut out)
 }

@@ -1,7 +1,11 @@
 // The replay of recorded nights: a file of days on standard input, a line for each day on standard output. All that it
 // says stands in the crate replay_judge; here are the buffers, the reading in portions, and what is said on standard error
 // where the file cannot be read to its end or a line not written.
-ghost use Rattle.std.specs.Prelude.{◌≡◌, ◌≤◌, length};
+#![tactic(auto)]
+
+ghost use Rattle.std.specs.Prelude.{◌≡◌, ◌≤◌, IfSome, IsTrue, length, take};
+ghost use Rattle.std.specs.Io.KnownBytes.{Appends, Consumes, IsAtEnd};
+ghost use Rattle.replay_days.specs.Judged.{judged};
 ghost use Rattle.replay_judge.specs.Carried.{buffers};
 ghost use Rattle.replay_judge.specs.Stands.{Finishes};
 ghost use Rattle.replay.specs.ReadOnce.{ReadOnce};
@@ -10,8 +14,8 @@ use base_places::{
     BODY_WIDTH, FLOATS_WIDTH, LONGEST_OUTPUT, MOST_IN_LINE, NUMBERS_WIDTH, PORTION, PROGRAM_BODIES,
     PROGRAM_CONTACTS, PROGRAM_STEPS, STEP_WIDTH, TOLD,
 };
-use libc::{STDERR_FILENO, STDIN_FILENO, STDOUT_FILENO};
 use replay_judge::{Judge, begin, judge_end, judge_read};
+use std::io::{Read, Write};
 
 // How many bytes were handed to be written, and whether they were.
 #[derive(Clone, Copy)]
@@ -31,29 +35,29 @@ struct Onward {
     well: bool,
 }
 
+// Says what went wrong; where that cannot be written, there is nobody left to tell.
+fn say<E: Write>(errors: &mut E, message: &[u8]) {
+    let _ = errors.write_all(message);
+}
+
 // Hands the first k bytes to be written, and answers how many that were.
-fn write_out(told: &[u8], k: usize) -> Handed
+fn write_out<W: Write, E: Write>(to: &mut W, errors: &mut E, told: &[u8], k: usize) -> Handed
     requires { k ≤ length told.now }
-    ensures { result.count ≡ k }
+    ensures count { result.count ≡ k }
+    ensures written { IsTrue result.well → Appends (W.contents to.old) (W.contents to.new) (take k told.now) }
 {
-    if io::write_all(STDOUT_FILENO, &told[..k]) {
-        return Handed {
-            count: k,
-            well: true,
-        };
+    let well = to.write_all(&told[..k]).is_ok();
+    if !well {
+        say(errors, b"replay: a day's line could not be written\n");
     }
-    io::write_all(
-        STDERR_FILENO,
-        b"replay: a day's line could not be written\n",
-    );
-    Handed {
-        count: k,
-        well: false,
-    }
+    Handed { count: k, well }
 }
 
 // Reads once, and tells of the days that end there. Where the read fails, it is as if no byte was read.
-fn replay_some(
+fn replay_some<R: Read, W: Write, E: Write>(
+    from: &mut R,
+    to: &mut W,
+    errors: &mut E,
     j: Judge,
     portion: &mut [u8; PORTION],
     held: &mut [u8; MOST_IN_LINE],
@@ -64,15 +68,14 @@ fn replay_some(
     out: &mut [u8; LONGEST_OUTPUT],
     told: &mut [u8; TOLD],
 ) -> Onward
-    ensures { ReadOnce j (buffers held.old bodies.old numbers.old floats.old steps.old) out.old told.old result
+    ensures once { ReadOnce j (buffers held.old bodies.old numbers.old floats.old steps.old) out.old told.old result
         portion.new (buffers held.new bodies.new numbers.new floats.new steps.new) out.new told.new }
+    ensures taken { Consumes (R.remaining from.old) (R.remaining from.new) (take result.read portion.new) }
+    ensures at_end { IsTrue result.well → result.read ≡ 0 → IsAtEnd (R.remaining from.new) }
+    ensures written { IsTrue result.well → Appends (W.contents to.old) (W.contents to.new) (take result.count told.new) }
 {
-    let got = libc::read(STDIN_FILENO, &mut *portion);
-    if got < 0 {
-        io::write_all(
-            STDERR_FILENO,
-            b"replay: the file could not be read to its end\n",
-        );
+    let Ok(n) = from.read(&mut *portion) else {
+        say(errors, b"replay: the file could not be read to its end\n");
         return Onward {
             judge: j,
             read: 0,
@@ -80,14 +83,13 @@ fn replay_some(
             more: false,
             well: false,
         };
-    }
-    let n = io::count(got, &*portion);
+    };
     let t = judge_read(
         j, &*portion, n, held, bodies, numbers, floats, steps, out, &mut *told,
     );
     let judge = t.judge;
     let at = t.at;
-    let handed = write_out(&*told, at);
+    let handed = write_out(to, errors, &*told, at);
     let count = handed.count;
     let well = handed.well;
     Onward {
@@ -100,7 +102,9 @@ fn replay_some(
 }
 
 // The end of the file.
-fn replay_end(
+fn replay_end<W: Write, E: Write>(
+    to: &mut W,
+    errors: &mut E,
     j: Judge,
     held: &mut [u8; MOST_IN_LINE],
     bodies: &mut [u32; PROGRAM_BODIES * BODY_WIDTH],
@@ -110,16 +114,21 @@ fn replay_end(
     out: &mut [u8; LONGEST_OUTPUT],
     told: &mut [u8; TOLD],
 ) -> Handed
-    ensures { Finishes j (buffers held.old bodies.old numbers.old floats.old steps.old) out.old told.old told.new result.count }
+    ensures finishes { Finishes j (buffers held.old bodies.old numbers.old floats.old steps.old) out.old told.old told.new result.count }
+    ensures written { IsTrue result.well → Appends (W.contents to.old) (W.contents to.new) (take result.count told.new) }
 {
     let k = judge_end(j, held, bodies, numbers, floats, steps, out, &mut *told);
-    write_out(&*told, k)
+    write_out(to, errors, &*told, k)
 }
 
 // Portion after portion, each turn with what the one before left; then the end. A proved loop has to end, and nothing
 // says that a file does: so the loop counts down from a number that no run uses up. With 2^51 portions of 4,096 bytes a
-// day's number stays below 2^63.
-fn replay_all(
+// day's number stays below 2^63. Answers whether all went well: then what is to be said of the file's days was written, and
+// nothing else.
+fn replay_all<R: Read, W: Write, E: Write>(
+    from: &mut R,
+    to: &mut W,
+    errors: &mut E,
     portion: &mut [u8; PORTION],
     held: &mut [u8; MOST_IN_LINE],
     bodies: &mut [u32; PROGRAM_BODIES * BODY_WIDTH],
@@ -128,11 +137,17 @@ fn replay_all(
     steps: &mut [u16; PROGRAM_STEPS * STEP_WIDTH],
     out: &mut [u8; LONGEST_OUTPUT],
     told: &mut [u8; TOLD],
-) {
+) -> bool
+    ensures { IsTrue result → IfSome (R.remaining from.old)
+        (λ file. Appends (W.contents to.old) (W.contents to.new) (judged file)) }
+{
     let mut j = begin();
     let mut turns: u64 = 2251799813685248;
     while 0 < turns {
         let on = replay_some(
+            &mut *from,
+            &mut *to,
+            &mut *errors,
             j,
             &mut *portion,
             &mut *held,
@@ -145,17 +160,21 @@ fn replay_all(
         );
         j = on.judge;
         if !on.more {
-            if on.well {
-                replay_end(j, held, bodies, numbers, floats, steps, out, told);
+            if !on.well {
+                return false;
             }
-            return;
+            let handed = replay_end(
+                to, errors, j, held, bodies, numbers, floats, steps, out, told,
+            );
+            return handed.well;
         }
         turns -= 1;
     }
-    io::write_all(STDERR_FILENO, b"replay: the file is too long\n");
+    say(errors, b"replay: the file is too long\n");
+    false
 }
 
-fn main() {
+fn main(rt: HostRuntime) {
     let mut portion = [0; PORTION];
     let mut held = [0; MOST_IN_LINE];
     let mut bodies = [0; PROGRAM_BODIES * BODY_WIDTH];
@@ -165,6 +184,9 @@ fn main() {
     let mut out = [0; LONGEST_OUTPUT];
     let mut told = [0; TOLD];
     replay_all(
+        &mut rt.stdin(),
+        &mut rt.stdout(),
+        &mut rt.stderr(),
         &mut portion,
         &mut held,
         &mut bodies,

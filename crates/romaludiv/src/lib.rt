@@ -1,6 +1,7 @@
-// The call, and the reader of a text in portions, for programs in C and in Rust: the static library libromaludiv.a exports
-// them, and host/romaludiv.h declares them. A stretch is passed as a pointer and a length, in elements; an array, whose length
-// never changes, as a pointer. What nothing here can test, and the host owes, stands in that header.
+// The call, and the reader of a text in portions, for programs in C and in Rust, with a reader as words, which a host keeps
+// between its calls. The crate romaludiv_c exports the four public functions.
+#![tactic(auto)]
+
 ghost use Rattle.std.specs.Prelude.{◌≡◌, ◌≤◌};
 ghost use Rattle.list_rules.specs.Sweep.{tables};
 ghost use Rattle.call_rules.specs.Call.{end as Call·end};
@@ -18,8 +19,7 @@ use text_read::{Came, Reader, begin, end, portion, within};
 
 // As `call::call`: the result is the number that refuses the whole call, or 0; how many steps were done and how many
 // of those were refused go out through the last two parameters.
-#[unsafe(no_mangle)]
-pub extern "C" fn romaludiv_call(
+pub fn romaludiv_call(
     bodies: &mut [f32],
     numbers: &[u16],
     floats: &mut [f32],
@@ -39,7 +39,7 @@ pub extern "C" fn romaludiv_call(
 
 // A reader crosses to the host as so many words, in the order that specs/Words.antt says. A host can put anything into its
 // memory, and a word, unlike a bool or an enum, holds anything.
-const WORDS: usize = 10;
+pub const WORDS: usize = 10;
 
 const LARGEST_REASON: usize = 255;
 
@@ -169,8 +169,7 @@ fn counted(k: Reader, bodies: &[u32], numbers: &[u16], floats: &[u32], steps: &[
 }
 
 // As `text_read::begin`: nothing has been read.
-#[unsafe(no_mangle)]
-pub extern "C" fn romaludiv_begin(words: &mut [usize; WORDS])
+pub fn romaludiv_begin(words: &mut [usize; WORDS])
     ensures words_after { words.new ≡ words_of fresh }
     ensures begins { Begins (reader_of words.new) }
 {
@@ -178,8 +177,7 @@ pub extern "C" fn romaludiv_begin(words: &mut [usize; WORDS])
 }
 
 // As `text_read::portion`, for any words: a portion of the text, or nothing after the end and after a bad line.
-#[unsafe(no_mangle)]
-pub extern "C" fn romaludiv_portion(
+pub fn romaludiv_portion(
     words: &mut [usize; WORDS],
     line: &mut [u8; MOST_IN_LINE],
     text: &[u8],
@@ -207,8 +205,7 @@ pub extern "C" fn romaludiv_portion(
 }
 
 // As `text_read::end`, for any words: the announced end, or nothing where it was announced before.
-#[unsafe(no_mangle)]
-pub extern "C" fn romaludiv_end(
+pub fn romaludiv_end(
     words: &mut [usize; WORDS],
     line: &[u8; MOST_IN_LINE],
     bodies: &mut [u32],

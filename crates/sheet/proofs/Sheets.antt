@@ -15,9 +15,9 @@ use Rattle.text_program.proofs.InPortions.{answers_early}
 use Rattle.sheet.specs.Sheets.{Reads, SheetAnswers}
 
 -- k was fed y
-record FedBy (y : List ℕ) (k : Reader) (line : List ℕ) (w : Cells) : Type 0 where
-  carried : reading_in k line w ≡ capped_in (going (feeds (room_of w) unread y))
-  room : room_of w ≡ of_program
+pub record FedBy (y : List ℕ) (k : Reader) (line : List ℕ) (w : Cells) : Type 0 where
+  pub carried : reading_in k line w ≡ capped_in (going (feeds (room_of w) unread y))
+  pub room : room_of w ≡ of_program
 
 abbrev AllRead : List (List ℕ) → Type 0
 AllRead portions =

@@ -56,7 +56,7 @@ fn in_rust(name: &str, kind: &str, written: bool) -> String {
 
 /// The function's three declarations agree; it has so many parameters, and C's result.
 fn agree(function: &str, result: &str, many: usize) {
-    let proved = include_str!("../../../crates/romaludiv/src/lib.rt");
+    let proved = include_str!("../../../crates/romaludiv_c/src/lib.rt");
     let proved = parameters(proved, &format!("pub extern \"C\" fn {function}("));
     let expand = |pointer, number| {
         let all = proved.iter().map(|p| becomes(p, pointer, number));
@@ -87,6 +87,9 @@ fn a_reader_is_as_long_everywhere() {
     let words = format!("const WORDS: usize = {};", romaludiv::READER_WORDS);
     let line = format!("const MOST_IN_LINE: usize = {};", romaludiv::MOST_IN_LINE);
     assert!(proved.contains(&words) && places.contains(&line));
-    assert_eq!(proved.matches("words: &mut [usize; WORDS]").count(), 3);
-    assert_eq!(proved.matches("[u8; MOST_IN_LINE]").count(), 2);
+    let exports = include_str!("../../../crates/romaludiv_c/src/lib.rt");
+    assert!(exports.contains("use romaludiv::WORDS;"));
+    assert!(exports.contains("use base_places::MOST_IN_LINE;"));
+    assert_eq!(exports.matches("words: &mut [usize; WORDS]").count(), 3);
+    assert_eq!(exports.matches("[u8; MOST_IN_LINE]").count(), 2);
 }
