@@ -7,7 +7,7 @@ use mathlib.Core.List.{List, [], ◌∷◌}
 use mathlib.Core.Logic.{◌≢◌}
 use mathlib.Core.Path.{◌≡◌, refl, sym, ◌∙◌, ap}
 use lib.ListN.{get_or, length}
-use Rattle.base_words.specs.Choice.{if◌then◌else◌}
+use Rattle.base_words.specs.Choice.{if◌then◌otherwise◌}
 use Rattle.base_order.specs.OneByOne.{any, count}
 
 abbrev pub remove : {A : Type 0} → List A → ℕ → List A
@@ -42,7 +42,7 @@ get_or-remove (x ∷ xs) (suc k) (suc j) d = get_or-remove xs k j d
 
 -- a test counts the element at k and the others ..
 pub count-remove : {A : Type 0} (test : A → Bool) (l : List A) (k : ℕ) (d : A) → k < length l
-    → count test l ≡ (if test (get_or l k d) then 1 else 0) + count test (remove l k)
+    → count test l ≡ (if test (get_or l k d) then 1 otherwise 0) + count test (remove l k)
 unfolding count
 count-remove test [] k d h = absurd (not-suc-le-zero h)
 count-remove test (x ∷ xs) zero d h = refl

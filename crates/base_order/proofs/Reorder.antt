@@ -7,7 +7,7 @@ use mathlib.Core.Bool.{Bool, ◌||◌}
 use mathlib.Core.List.{List, [], ◌∷◌}
 use mathlib.Core.Path.{◌≡◌, refl, sym, ap, ap₂, ◌∙◌, subst, subst₂}
 use lib.ListN.{get_or, length}
-use Rattle.base_words.specs.Choice.{if◌then◌else◌}
+use Rattle.base_words.specs.Choice.{if◌then◌otherwise◌}
 use Rattle.base_order.specs.OneByOne.{Stepped, answers, any, count, finish}
 use Rattle.base_order.specs.Reordered.{Commute, Reordered, SameOutcome}
 use Rattle.base_order.proofs.Snoc.{length_answers}
@@ -145,7 +145,7 @@ module _ {S St A : Type 0} (step : S → St → Stepped A St) (Shares : S → S 
         same_end = at_first.end ∙ later.same_end;
         same_count = λ test.
             count-remove test (answers step ys st) (m.there zero) e (subst (λ (n : ℕ). m.there zero < n) (sym (length_answers step ys st)) (k_in x xs ys m))
-            ∙ ap₂ ◌+◌ (ap (λ (a : A). if test a then 1 else 0) at_first.its_answer) (ap (count test) at_first.others ∙ later.same_count test);
+            ∙ ap₂ ◌+◌ (ap (λ (a : A). if test a then 1 otherwise 0) at_first.its_answer) (ap (count test) at_first.others ∙ later.same_count test);
       }
     where
       at : First x (m.there zero) ys st → SameOutcome step (there' x xs ys m) e xs (remove ys (m.there zero)) (step x st).after

@@ -6,7 +6,7 @@ use mathlib.Core.Bool.{Bool, true, false, ◌||◌}
 use mathlib.Core.List.{List, [], ◌∷◌, ◌++◌}
 use mathlib.Core.Path.{◌≡◌, refl, sym, ◌∙◌, ap}
 use lib.ListN.{length}
-use Rattle.base_words.specs.Choice.{if◌then◌else◌}
+use Rattle.base_words.specs.Choice.{if◌then◌otherwise◌}
 use Rattle.base_order.specs.OneByOne.{Stepped, answers, any, count, finish}
 
 module _ {S St A : Type 0} (step : S → St → Stepped A St) where
@@ -36,7 +36,7 @@ module _ {S St A : Type 0} (step : S → St → Stepped A St) where
   length_answers (x ∷ ss) st = ap suc (length_answers ss (step x st).after)
 
 -- a test counts for one at most
-pub one_at_most : (b : Bool) → (if b then 1 else 0) ≤ 1
+pub one_at_most : (b : Bool) → (if b then 1 otherwise 0) ≤ 1
 one_at_most true = omega arith
 one_at_most false = omega arith
 
@@ -45,11 +45,11 @@ module _ {A : Type 0} (test : A → Bool) where
   unfolding count
   count_none = refl
 
-  pub count_snoc : (l : List A) (a : A) → count test (l ++ (a ∷ [])) ≡ count test l + (if test a then 1 else 0)
+  pub count_snoc : (l : List A) (a : A) → count test (l ++ (a ∷ [])) ≡ count test l + (if test a then 1 otherwise 0)
   unfolding count
   count_snoc [] a = omega arith
   count_snoc (x ∷ l) a =
-      ap (λ (n : ℕ). (if test x then 1 else 0) + n) (count_snoc l a) ∙ sym (add_assoc (if test x then 1 else 0) (count test l) (if test a then 1 else 0))
+      ap (λ (n : ℕ). (if test x then 1 otherwise 0) + n) (count_snoc l a) ∙ sym (add_assoc (if test x then 1 otherwise 0) (count test l) (if test a then 1 otherwise 0))
 
   pub count_le : (l : List A) → count test l ≤ length l
   unfolding count

@@ -1,7 +1,7 @@
 -- Document 01, "What the contracts have to leave no room for": "the plain one-by-one definition", a list of steps done from its front.
 -- For any kind of step S, state St and answer A. Assumes nothing.
 use Rattle.std.specs.Prelude.{ℕ, ◌+◌, Bool, false, ◌||◌, List, [], ◌∷◌}
-use Rattle.base_words.specs.Choice.{if◌then◌else◌}
+use Rattle.base_words.specs.Choice.{if◌then◌otherwise◌}
 
 -- what a step comes to: its answer, and the state after it
 pub record Stepped (A St : Type 0) : Type 0 where
@@ -22,7 +22,7 @@ module _ {S St A : Type 0} (step : S → St → Stepped A St) where
 -- how many of a list pass a test
 unfoldable pub count : {A : Type 0} → (A → Bool) → List A → ℕ
 count test [] = 0
-count test (a ∷ l) = (if test a then 1 else 0) + count test l
+count test (a ∷ l) = (if test a then 1 otherwise 0) + count test l
 
 -- whether one of a list passes it
 unfoldable pub any : {A : Type 0} → (A → Bool) → List A → Bool

@@ -6,7 +6,7 @@ use mathlib.Core.Bool.{Bool, true, false, not, ◌&&◌, ◌||◌}
 use mathlib.Core.List.{List, [], ◌∷◌}
 use borrow.Author.Tests.{eq-eqb, eqb-true}
 use lib.Dec.{eqb}
-use Rattle.base_words.specs.Choice.{if◌then◌else◌}
+use Rattle.base_words.specs.Choice.{if◌then◌otherwise◌}
 use Rattle.base_words.proofs.Pick.{never}
 use Rattle.base_words.proofs.Said.{all_l, all_r, none_l, none_r, not_so}
 use Rattle.base_refusals.specs.Refusals.{Condition, Exactly, FirstOf, earlier, first, holds_for, some_holds}
@@ -59,11 +59,11 @@ module _ (c : Condition) (cs : List Condition) where
 
     own_earlier : eqb n c.number ≡ true → some_holds (earlier n (c ∷ cs)) ≡ false
     unfolding earlier some_holds
-    own_earlier own = ap (λ (b : Bool). some_holds (if b then [] else c ∷ earlier n cs)) own
+    own_earlier own = ap (λ (b : Bool). some_holds (if b then [] otherwise c ∷ earlier n cs)) own
 
     other_earlier : eqb n c.number ≡ false → some_holds (earlier n (c ∷ cs)) ≡ (c.holds || some_holds (earlier n cs))
     unfolding earlier some_holds
-    other_earlier other = ap (λ (b : Bool). some_holds (if b then [] else c ∷ earlier n cs)) other
+    other_earlier other = ap (λ (b : Bool). some_holds (if b then [] otherwise c ∷ earlier n cs)) other
 
   some : some_holds (c ∷ cs) ≡ (c.holds || some_holds cs)
   unfolding some_holds

@@ -1,7 +1,7 @@
 -- Document 01, "Numbers that refuse": numbers with their conditions in the order of judging, and what it means that a number is
 -- "given exactly when". A number has its place in that order by where it stands in a list, not by how large it is. Assumes nothing.
 use Rattle.std.specs.Prelude.{ℕ, ◌<◌, ◌≡◌, ◌↔◌, Bool, true, false, ◌&&◌, ◌||◌, List, [], ◌∷◌, eqb}
-use Rattle.base_words.specs.Choice.{if◌then◌else◌}
+use Rattle.base_words.specs.Choice.{if◌then◌otherwise◌}
 
 -- a number, and whether its condition holds
 pub record Condition : Type 0 where
@@ -15,7 +15,7 @@ n when b = record { number = n; holds = b }
 -- the number of the first condition that holds; 0 where none does
 unfoldable pub first : List Condition → ℕ
 first [] = 0
-first (c ∷ cs) = if c.holds then c.number else first cs
+first (c ∷ cs) = if c.holds then c.number otherwise first cs
 
 -- whether the condition of number n holds; a number that the list does not have has none
 unfoldable pub holds_for : ℕ → List Condition → Bool
@@ -25,7 +25,7 @@ holds_for n (c ∷ cs) = eqb n c.number && c.holds || holds_for n cs
 -- the conditions that stand before number n's
 unfoldable pub earlier : ℕ → List Condition → List Condition
 earlier n [] = []
-earlier n (c ∷ cs) = if eqb n c.number then [] else c ∷ earlier n cs
+earlier n (c ∷ cs) = if eqb n c.number then [] otherwise c ∷ earlier n cs
 
 -- whether some condition of a list holds
 unfoldable pub some_holds : List Condition → Bool

@@ -1,7 +1,7 @@
 -- Document 01, "Numbers that refuse" and "Tables": a call, by its plain one-by-one definition. Assumes nothing.
 use Rattle.std.specs.Prelude.{ℕ, min, List, eqb}
 use Rattle.base_places.specs.Places.{step_width}
-use Rattle.base_words.specs.Choice.{if◌then◌else◌}
+use Rattle.base_words.specs.Choice.{if◌then◌otherwise◌}
 use Rattle.base_refusals.specs.Refusals.{first}
 use Rattle.base_rows.specs.Rows.{rows}
 use Rattle.list_rules.specs.Sweep.{Swept, Tables, sweep}
@@ -45,4 +45,4 @@ one_by_one lent budget =
     let number = first (whole_call lent.tables lent.steps lent.room) in
     if eqb number 0
     then all_done (steps_done lent budget) (sweep lent.steps (steps_done lent budget) lent.tables lent.room)
-    else nothing_done number lent
+    otherwise nothing_done number lent

@@ -6,7 +6,7 @@ use mathlib.Core.Path.{◌≡◌, refl, sym, ◌∙◌}
 use lib.Dec.{T}
 use lib.Ieee.{Float, binary32, eq, fits, le, lt, neg, of_bits}
 use lib.Ieee.Fits.{cond-fits, mul-fits, sub-fits}
-use Rattle.base_words.specs.Choice.{if◌then◌else◌}
+use Rattle.base_words.specs.Choice.{if◌then◌otherwise◌}
 use Rattle.base_words.specs.Each.{Each}
 use Rattle.base_words.proofs.Each.{◌and◌}
 use Rattle.base_words.proofs.Pick.{take, pass}
@@ -64,8 +64,8 @@ first_is [] n = refl
 first_is (c ∷ cs) n = by_case c.passes refl (first_is cs n)
   where
     by_case : (b : Bool) → c.passes ≡ b → FirstPassing cs n (first_passing cs n)
-        → ((c.passes ≡ true) × ((if b then c.choice else first_passing cs n) ≡ c.choice))
-        ⊎ ((c.passes ≡ false) × FirstPassing cs n (if b then c.choice else first_passing cs n))
+        → ((c.passes ≡ true) × ((if b then c.choice otherwise first_passing cs n) ≡ c.choice))
+        ⊎ ((c.passes ≡ false) × FirstPassing cs n (if b then c.choice otherwise first_passing cs n))
     by_case true e rest = inl (e, refl)
     by_case false e rest = inr (e, rest)
 
@@ -116,7 +116,7 @@ pub restitutions_push : (seed total impulse r dvel : Float) → Pushes impulse (
 unfolding restitution_impulse
 restitutions_push seed total impulse r dvel = by_case ((seed <f zero) && (total >f zero))
   where
-    by_case : (b : Bool) → Pushes impulse (if b then max0 (impulse -f r *f dvel) else impulse)
+    by_case : (b : Bool) → Pushes impulse (if b then max0 (impulse -f r *f dvel) otherwise impulse)
     by_case true = inr (max0_made (impulse -f r *f dvel) (sub-fits binary32 impulse (r *f dvel)))
     by_case false = inl refl
 

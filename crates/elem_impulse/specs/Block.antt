@@ -1,7 +1,7 @@
 -- Document 01, "Arithmetic": the block choice, and the branch numbers of "Numbers that refuse". Assumes nothing.
 use Rattle.std.specs.Prelude.{ℕ, ◌&&◌, List, [], ◌∷◌, Float}
 use Rattle.std.specs.Float.Ieee.{neg}
-use Rattle.base_words.specs.Choice.{if◌then◌else◌}
+use Rattle.base_words.specs.Choice.{if◌then◌otherwise◌}
 use Rattle.elem_leaves.specs.Floats.{◌+f◌, ◌-f◌, ◌*f◌, ◌>f◌, ◌≥f◌, zero}
 use Rattle.elem_leaves.specs.Leaves.{inv, vec}
 use Rattle.elem_leaves.specs.declared.Vec2.{Vec2}
@@ -72,7 +72,7 @@ neither s = record { passes = (s.b1 ≥f zero) && (s.b2 ≥f zero); choice = cho
 -- First passing wins
 unfoldable pub first_passing : List Candidate → PairChoice → PairChoice
 first_passing [] none_passed = none_passed
-first_passing (c ∷ cs) none_passed = if c.passes then c.choice else first_passing cs none_passed
+first_passing (c ∷ cs) none_passed = if c.passes then c.choice otherwise first_passing cs none_passed
 
 unfoldable pub candidates : System → List Candidate
 candidates s = both s ∷ a_only s ∷ b_only s ∷ neither s ∷ []

@@ -1,7 +1,7 @@
 -- Document 01, "Arithmetic": the new normal impulses of two points, from plain floats: when the block choice is used, and what
 -- stands in for it. Assumes nothing.
 use Rattle.std.specs.Prelude.{Float}
-use Rattle.base_words.specs.Choice.{if◌then◌else◌}
+use Rattle.base_words.specs.Choice.{if◌then◌otherwise◌}
 use Rattle.elem_leaves.specs.Floats.{◌+f◌, ◌-f◌, ◌*f◌, ◌>f◌, half}
 use Rattle.elem_leaves.specs.Leaves.{vec}
 use Rattle.elem_leaves.specs.declared.Vec2.{Vec2}
@@ -20,4 +20,4 @@ degraded dvel degraded_dvel prev ra rb k12 cfm =
 -- The block choice is used only if flag > 0.5. Otherwise degraded
 unfoldable pub choice : Vec2 → Float → Vec2 → Float → Float → Float → Float → Vec2 → PairChoice
 choice dvel degraded_dvel prev ra rb k12 flag cfm =
-    if flag >f half then block_choice dvel prev ra rb k12 cfm else degraded dvel degraded_dvel prev ra rb k12 cfm
+    if flag >f half then block_choice dvel prev ra rb k12 cfm otherwise degraded dvel degraded_dvel prev ra rb k12 cfm

@@ -9,7 +9,7 @@ use lib.Ieee.{Float}
 use lib.ListN.{length, set}
 use Rattle.base_places.specs.Places.{body_width, cells, floats_width, place, point_place, point_width}
 use Rattle.base_places.specs.declared.Cell.{Cell}
-use Rattle.base_words.specs.Choice.{if◌then◌else◌}
+use Rattle.base_words.specs.Choice.{if◌then◌otherwise◌}
 use Rattle.elem_velocity.specs.Velocity.{rest}
 use Rattle.elem_velocity.specs.declared.SolverVel.{SolverVel}
 use Rattle.step_contact.specs.Cells.{in_cell, with_cell}
@@ -58,7 +58,7 @@ point_back (c ∷ cs) stored p l long =
     point_back cs stored p (put_if (stored c) (place c) (in_cell c p) l) (if_as_long (stored c) (place c) (in_cell c p) l ∙ long)
     ∙ ap (λ (x : ContactPoint). stored_in cs stored x p) (by_case (stored c))
   where
-    by_case : (b : Bool) → point_of (if b then set l (place c) (in_cell c p) else l) ≡ (if b then with_cell c (point_of l) (in_cell c p) else point_of l)
+    by_case : (b : Bool) → point_of (if b then set l (place c) (in_cell c p) otherwise l) ≡ (if b then with_cell c (point_of l) (in_cell c p) otherwise point_of l)
     by_case true = cell_set c (in_cell c p) l long
     by_case false = refl
 

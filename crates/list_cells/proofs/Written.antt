@@ -13,7 +13,7 @@ use lib.Ieee.{Float, nan}
 use lib.ListN.{length, length-set}
 use Rattle.base_places.specs.Places.{body_width, cells, floats_width, head_width, place, point_place, point_width}
 use Rattle.base_places.specs.declared.Cell.{Cell}
-use Rattle.base_words.specs.Choice.{if◌then◌else◌}
+use Rattle.base_words.specs.Choice.{if◌then◌otherwise◌}
 use Rattle.elem_velocity.specs.declared.SolverVel.{SolverVel}
 use Rattle.step_contact.specs.Cells.{in_cell}
 use Rattle.step_contact.specs.Contact.{is_floor}
@@ -43,7 +43,7 @@ module _ (bodies : List Float) (body : ℕ) (v : SolverVel) where
   unfolding put_vel
   vel_elsewhere m ne = by_case (is_floor body)
     where
-      by_case : (floor : Bool) → row body_width m (if floor then bodies else on_row body_width body (λ _. vel_row v) bodies) ≡ row body_width m bodies
+      by_case : (floor : Bool) → row body_width m (if floor then bodies otherwise on_row body_width body (λ _. vel_row v) bodies) ≡ row body_width m bodies
       by_case true = refl
       by_case false = other_rows Float body_width body (λ _. vel_row v) bodies keeps_three m ne
 
@@ -63,8 +63,8 @@ module _ (bodies : List Float) (body : ℕ) (v : SolverVel) where
   unfolding put_vel
   vel_local others many m same = by_case (is_floor body)
     where
-      by_case : (floor : Bool) → row body_width m (if floor then others else on_row body_width body (λ _. vel_row v) others)
-          ≡ row body_width m (if floor then bodies else on_row body_width body (λ _. vel_row v) bodies)
+      by_case : (floor : Bool) → row body_width m (if floor then others otherwise on_row body_width body (λ _. vel_row v) others)
+          ≡ row body_width m (if floor then bodies otherwise on_row body_width body (λ _. vel_row v) bodies)
       by_case true = same
       by_case false = row_local Float body_width body (λ _. vel_row v) bodies keeps_three others many m same
 
@@ -73,7 +73,7 @@ module _ (bodies : List Float) (body : ℕ) (v : SolverVel) where
   unfolding put_vel
   bodies_as_long = by_case (is_floor body)
     where
-      by_case : (floor : Bool) → length (if floor then bodies else on_row body_width body (λ _. vel_row v) bodies) ≡ length bodies
+      by_case : (floor : Bool) → length (if floor then bodies otherwise on_row body_width body (λ _. vel_row v) bodies) ≡ length bodies
       by_case true = refl
       by_case false = as_long Float body_width body (λ _. vel_row v) bodies keeps_three
 

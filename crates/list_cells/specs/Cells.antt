@@ -3,7 +3,7 @@
 use Rattle.std.specs.Prelude.{ℕ, Bool, ◌&&◌, List, [], ◌∷◌, ltb, Float, get_or, set}
 use Rattle.base_places.specs.Places.{answer_width, body_width, cells, floats_width, place, point_place, point_width}
 use Rattle.base_places.specs.declared.Cell.{Cell}
-use Rattle.base_words.specs.Choice.{if◌then◌else◌}
+use Rattle.base_words.specs.Choice.{if◌then◌otherwise◌}
 use Rattle.elem_velocity.specs.declared.SolverVel.{SolverVel}
 use Rattle.step_contact.specs.Cells.{in_cell}
 use Rattle.step_contact.specs.Contact.{is_floor}
@@ -20,11 +20,11 @@ vel_row v = v.linear.x ∷ v.linear.y ∷ v.angular ∷ []
 
 -- the floor "is never written"
 unfoldable pub put_vel : List Float → ℕ → SolverVel → List Float
-put_vel bodies body v = if is_floor body then bodies else on_row body_width body (λ _. vel_row v) bodies
+put_vel bodies body v = if is_floor body then bodies otherwise on_row body_width body (λ _. vel_row v) bodies
 
 -- x at place i, if it is stored
 unfoldable pub put_if : Bool → ℕ → Float → List Float → List Float
-put_if stored i x l = if stored then set l i x else l
+put_if stored i x l = if stored then set l i x otherwise l
 
 -- a point's cells at their places among its floats, those that are stored, one after the other
 unfoldable pub put_cells : List Cell → (Cell → Bool) → ContactPoint → List Float → List Float

@@ -5,7 +5,7 @@ use mathlib.Core.Bool.{Bool, true, false}
 use mathlib.Core.Logic.{◌≢◌}
 use mathlib.Core.Path.{◌≡◌, refl}
 use lib.Dec.{ltb}
-use Rattle.base_words.specs.Choice.{if◌then◌else◌}
+use Rattle.base_words.specs.Choice.{if◌then◌otherwise◌}
 use Rattle.base_places.specs.Places.{body_width, floats_width}
 use Rattle.base_rows.specs.Rows.{rows}
 use Rattle.step_kinds.specs.declared.ContactSolved.{ContactSolved}
@@ -21,7 +21,7 @@ refused_there : (contacts : ℕ) (s : Step) (o : Outcome) (n : ℕ) → ((m : �
 unfolding if_there
 refused_there contacts s o n numbered = by_case (ltb s.contact contacts)
   where
-    by_case : (b : Bool) → (if b then o else Refused 2) ≡ Refused n → n ≢ 0
+    by_case : (b : Bool) → (if b then o otherwise Refused 2) ≡ Refused n → n ≢ 0
     by_case true e = numbered n e
     by_case false e = λ zero. let two : ◌≡◌ {A = ℕ} 2 n = cc in absurd (omega arith)
 

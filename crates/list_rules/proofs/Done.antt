@@ -7,7 +7,7 @@ use borrow.Author.Tests.{ltb-true}
 use lib.Dec.{ltb}
 use lib.Ieee.{Float}
 use Rattle.base_places.specs.Places.{body_width, floats_width}
-use Rattle.base_words.specs.Choice.{if◌then◌else◌}
+use Rattle.base_words.specs.Choice.{if◌then◌otherwise◌}
 use Rattle.elem_velocity.specs.declared.Vels.{Vels}
 use Rattle.step_contact.specs.declared.ContactHead.{ContactHead}
 use Rattle.step_kinds.specs.declared.ContactSolved.{ContactSolved}
@@ -27,7 +27,7 @@ done_if_there : (contacts : ℕ) (s : Step) (o : Outcome) (d : ContactSolved) �
 unfolding if_there
 done_if_there contacts s o d e = by_case (ltb s.contact contacts) refl e
   where
-    by_case : (b : Bool) → ltb s.contact contacts ≡ b → (if b then o else Refused 2) ≡ Done d → (s.contact < contacts) × (o ≡ Done d)
+    by_case : (b : Bool) → ltb s.contact contacts ≡ b → (if b then o otherwise Refused 2) ≡ Done d → (s.contact < contacts) × (o ≡ Done d)
     by_case true h e = (ltb-true s.contact contacts h, e)
     by_case false h e = not_both e
 

@@ -4,7 +4,7 @@ use mathlib.Core.List.{List, ◌∷◌}
 use mathlib.Core.Path.{◌≡◌, refl, ◌∙◌}
 use lib.Dec.{ltb}
 use Rattle.base_places.specs.Places.{body_width, floats_width}
-use Rattle.base_words.specs.Choice.{if◌then◌else◌}
+use Rattle.base_words.specs.Choice.{if◌then◌otherwise◌}
 use Rattle.base_refusals.specs.Refusals.{Condition, ◌when◌, first}
 use Rattle.base_refusals.specs.Distinct.{distinct, stands}
 use Rattle.base_refusals.proofs.Chain.{hit, miss}
@@ -29,7 +29,7 @@ module _ (s : Step) (t : Tables) where
       later : List Condition
       later = conditions c s.kind (as_read c.head (vels_at t.bodies c.head)) (rows body_width t.bodies)
 
-      by_case : (b : Bool) → (if b then answer (step c s.kind (vels_at t.bodies c.head) (rows body_width t.bodies)) else 2) ≡ first (2 when not b ∷ later)
+      by_case : (b : Bool) → (if b then answer (step c s.kind (vels_at t.bodies c.head) (rows body_width t.bodies)) otherwise 2) ≡ first (2 when not b ∷ later)
       by_case true = miss 2 later refl refl (answers_first c s.kind (vels_at t.bodies c.head) (rows body_width t.bodies))
       by_case false = hit 2 later refl refl
 

@@ -9,7 +9,7 @@ use mathlib.Core.Path.{◌≡◌, refl}
 use lib.Dec.{leb, ltb}
 use lib.ListN.{get_or}
 use Rattle.base_places.specs.Places.{answer_width, body_width, floats_width, step_width}
-use Rattle.base_words.specs.Choice.{if◌then◌else◌}
+use Rattle.base_words.specs.Choice.{if◌then◌otherwise◌}
 use Rattle.base_words.proofs.Said.{all_l, all_r}
 use Rattle.base_refusals.specs.Refusals.{Condition, first}
 use Rattle.base_rows.specs.Rows.{row, rows}
@@ -37,7 +37,7 @@ first_few m [] e = omega arith
 first_few m (c ∷ cs) e =
     by_case c.holds (leb-true _ _ (all_l (leb c.number m) (up_to m cs) e)) (first_few m cs (all_r (leb c.number m) (up_to m cs) e))
   where
-    by_case : (b : Bool) → c.number ≤ m → first cs ≤ m → (if b then c.number else first cs) ≤ m
+    by_case : (b : Bool) → c.number ≤ m → first cs ≤ m → (if b then c.number otherwise first cs) ≤ m
     by_case true h rest = h
     by_case false h rest = rest
 
@@ -54,7 +54,7 @@ branch_few s t =
     c : Contact
     c = its_contact s t
 
-    by_case : (b : Bool) (o : Outcome) → branch o ≤ 6 → branch (if b then o else Refused 2) ≤ 6
+    by_case : (b : Bool) (o : Outcome) → branch o ≤ 6 → branch (if b then o otherwise Refused 2) ≤ 6
     by_case true o h = h
     by_case false o h = omega arith
 

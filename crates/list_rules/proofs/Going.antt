@@ -8,7 +8,7 @@ use mathlib.Core.List.{List, [], ◌∷◌, ◌++◌}
 use mathlib.Core.Path.{◌≡◌, refl, sym, ◌∙◌, ap, ap₂}
 use lib.ListN.{length, length-append}
 use Rattle.base_places.specs.Places.{step_width}
-use Rattle.base_words.specs.Choice.{if◌then◌else◌}
+use Rattle.base_words.specs.Choice.{if◌then◌otherwise◌}
 use Rattle.base_words.proofs.Pick.{pass, take}
 use Rattle.base_rows.specs.Rows.{rows}
 use Rattle.list_tables.specs.Tables.{step_as, step_at}
@@ -95,7 +95,7 @@ module _ (steps : List ℕ) (t : Tables) (room : List ℕ) where
   pub sweep_suc : (n : ℕ) → n < rows step_width steps → sweep steps (suc n) t room
       ≡ swept (step_on (step_at steps n) (sweep steps n t room).tables).after
       (put_answer (sweep steps n t room).room n (step_on (step_at steps n) (sweep steps n t room).tables).answer)
-      ((sweep steps n t room).refused + (if is_refused (step_on (step_at steps n) (sweep steps n t room).tables).answer then 1 else 0))
+      ((sweep steps n t room).refused + (if is_refused (step_on (step_at steps n) (sweep steps n t room).tables).answer then 1 otherwise 0))
   unfolding sweep
   sweep_suc n within =
       rw (

@@ -7,7 +7,7 @@ use mathlib.Core.Path.{◌≡◌, refl}
 use lib.Dec.{ltb}
 use lib.Ieee.{Float}
 use Rattle.base_places.specs.Places.{body_width, floats_width}
-use Rattle.base_words.specs.Choice.{if◌then◌else◌}
+use Rattle.base_words.specs.Choice.{if◌then◌otherwise◌}
 use Rattle.step_contact.specs.declared.ContactHead.{ContactHead}
 use Rattle.step_kinds.specs.declared.ContactSolved.{ContactSolved}
 use Rattle.step_rules.specs.Step.{answer, step}
@@ -41,12 +41,12 @@ floats_written s o d floats e p = rw e p
 -- what a step is answered: 2, where its contact is not there, else what the step on copies answers
 pub number_of : (s : Step) (t : Tables) → (step_on s t).answer.number
     ≡ (if ltb s.contact (rows floats_width t.floats)
-    then answer (step (its_contact s t) s.kind (vels_at t.bodies (its_contact s t).head) (rows body_width t.bodies)) else 2)
+    then answer (step (its_contact s t) s.kind (vels_at t.bodies (its_contact s t).head) (rows body_width t.bodies)) otherwise 2)
 unfolding step_on answered outcome if_there
 number_of s t =
     by_case (ltb s.contact (rows floats_width t.floats)) (step (its_contact s t) s.kind (vels_at t.bodies (its_contact s t).head) (rows body_width t.bodies))
   where
-    by_case : (b : Bool) (o : Outcome) → answer (if b then o else Refused 2) ≡ (if b then answer o else 2)
+    by_case : (b : Bool) (o : Outcome) → answer (if b then o otherwise Refused 2) ≡ (if b then answer o otherwise 2)
     by_case true o = refl
     by_case false o = refl
 

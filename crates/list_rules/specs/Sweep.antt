@@ -1,7 +1,7 @@
 -- Document 01, "Tables" and "Numbers that refuse": one step on the tables, and a list of steps, one by one. Assumes nothing.
 use Rattle.std.specs.Prelude.{ℕ, zero, suc, Bool, not, List, [], ◌∷◌, ◌++◌, eqb, ltb, Float}
 use Rattle.base_places.specs.Places.{body_width, floats_width, step_width}
-use Rattle.base_words.specs.Choice.{if◌then◌else◌}
+use Rattle.base_words.specs.Choice.{if◌then◌otherwise◌}
 use Rattle.elem_velocity.specs.declared.Vels.{Vels}
 use Rattle.step_contact.specs.declared.Contact.{Contact}
 use Rattle.step_contact.specs.declared.ContactHead.{ContactHead}
@@ -32,7 +32,7 @@ vels_at bodies h = record { v1 = vel_at bodies h.body1; v2 = vel_at bodies h.bod
 -- 2: a step names a contact not in the contact table, which has this many rows. The call refuses such a list before any step; 2
 -- stands here so that a step by itself is answered
 unfoldable pub if_there : ℕ → Step → Outcome → Outcome
-if_there contacts s o = if ltb s.contact contacts then o else Refused 2
+if_there contacts s o = if ltb s.contact contacts then o otherwise Refused 2
 
 -- "this step; no body or contact changes" if it is refused; a done step writes the velocities of its bodies ..
 unfoldable pub new_bodies : ContactHead → Outcome → List Float → List Float
@@ -75,7 +75,7 @@ step_on s t = record {
 unfoldable pub first_steps : List ℕ → ℕ → List Step
 first_steps steps zero = []
 first_steps steps (suc n) =
-    if ltb n (rows step_width steps) then first_steps steps n ++ (step_at steps n ∷ []) else first_steps steps n
+    if ltb n (rows step_width steps) then first_steps steps n ++ (step_at steps n ∷ []) otherwise first_steps steps n
 
 -- each answer in its row of the room, from row i on; all other room isn't touched
 unfoldable pub laid : ℕ → List Answer → List ℕ → List ℕ

@@ -11,7 +11,7 @@ use lib.ListN.{get_or, length, set}
 use Rattle.base_places.specs.Places.{body_width, floats_width, head_width, impulse_place, normal_width, numbers_width, place, point_place, point_width, tangent_width}
 use Rattle.base_places.specs.declared.Cell.{Cell}
 use Rattle.base_places.specs.declared.Cell.TheVariants.{NormalImpulse, TangentImpulse}
-use Rattle.base_words.specs.Choice.{if◌then◌else◌}
+use Rattle.base_words.specs.Choice.{if◌then◌otherwise◌}
 use Rattle.elem_leaves.specs.Leaves.{vec}
 use Rattle.elem_velocity.specs.Velocity.{rest}
 use Rattle.elem_tangent.specs.Tangent.{tangent_with}
@@ -126,7 +126,7 @@ module _ (bodies : List Float) (body : ℕ) where
   same_vel others many same = by_case (is_floor body) refl (dec_lt body (rows body_width bodies))
     where
       by_case : (floor : Bool) → is_floor body ≡ floor → Dec (body < rows body_width bodies)
-          → (if floor then rest else read_row body_width body vel_of rest others) ≡ (if floor then rest else read_row body_width body vel_of rest bodies)
+          → (if floor then rest otherwise read_row body_width body vel_of rest others) ≡ (if floor then rest otherwise read_row body_width body vel_of rest bodies)
       by_case true floor _ = refl
       by_case false real (yes h) = same_read body_width body vel_of rest bodies others many (same real h)
       by_case false real (no nl) =

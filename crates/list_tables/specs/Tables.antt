@@ -2,7 +2,7 @@
 use Rattle.std.specs.Prelude.{ℕ, List, Float, get_or}
 use Rattle.std.specs.Float.{nan}
 use Rattle.base_places.specs.Places.{accumulator_place, body_width, floats_width, head_width, impulse_place, normal_width, numbers_width, point_place, point_width, step_width, tangent_width}
-use Rattle.base_words.specs.Choice.{if◌then◌else◌}
+use Rattle.base_words.specs.Choice.{if◌then◌otherwise◌}
 use Rattle.elem_leaves.specs.Leaves.{vec}
 use Rattle.elem_velocity.specs.Velocity.{rest}
 use Rattle.elem_velocity.specs.declared.SolverVel.{SolverVel}
@@ -25,7 +25,7 @@ vel_of l = record { linear = vec (at l 0) (at l 1); angular = at l 2 }
 
 -- Body number 65535 is the floor: it reads as zero velocity; so does a number that the table does not have
 unfoldable pub vel_at : List Float → ℕ → SolverVel
-vel_at bodies body = if is_floor body then rest else read_row body_width body vel_of rest bodies
+vel_at bodies body = if is_floor body then rest otherwise read_row body_width body vel_of rest bodies
 
 -- Each contact: two body numbers, point count; dir, im1, im2 (two floats each), friction, k12, flag
 unfoldable pub head_of : List ℕ → List Float → ContactHead

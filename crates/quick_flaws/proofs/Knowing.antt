@@ -5,7 +5,7 @@ use mathlib.Core.Bool.{Bool, true, false, ◌||◌}
 use mathlib.Core.List.{List, [], ◌∷◌}
 use borrow.Author.Tests.{eq-eqb, eqb-false, ne_eqb}
 use lib.Dec.{eqb}
-use Rattle.base_words.specs.Choice.{if◌then◌else◌}
+use Rattle.base_words.specs.Choice.{if◌then◌otherwise◌}
 use Rattle.base_words.proofs.Said.{none_l, none_r}
 use Rattle.base_refusals.specs.Refusals.{Condition, ◌when◌, first}
 use Rattle.base_refusals.specs.Distinct.{distinct, stands}
@@ -56,8 +56,8 @@ module _ (c : Contact) (kind : ℕ) (v : Vels) (rows : ℕ) where
     own : eqb n n ≡ true
     own = eq-eqb n n refl
 
-    go_on : (d : Bool) → (if d then Refused n else first_or (asked_knowing (flaw_of ks) ks c kind v) made) ≡ (if d then Refused n else first_or (asked ks c kind v rows) made)
-    go_on d = ap (λ (o : Outcome). if d then Refused n else o) later
+    go_on : (d : Bool) → (if d then Refused n otherwise first_or (asked_knowing (flaw_of ks) ks c kind v) made) ≡ (if d then Refused n otherwise first_or (asked ks c kind v rows) made)
+    go_on d = ap (λ (o : Outcome). if d then Refused n otherwise o) later
 
     of_contact_lem : (b : Bool) → first_or (n when eqb (after b) n ∷ asked_knowing (after b) ks c kind v) made ≡ first_or (n when b ∷ asked ks c kind v rows) made
     unfolding first first_or

@@ -7,7 +7,7 @@ use mathlib.Core.Path.{◌≡◌, refl, sym, ap, ◌∙◌}
 use lib.Dec.{ltb}
 use lib.Ieee.{Float}
 use Rattle.base_places.specs.Places.{body_width, floats_width}
-use Rattle.base_words.specs.Choice.{if◌then◌else◌}
+use Rattle.base_words.specs.Choice.{if◌then◌otherwise◌}
 use Rattle.elem_velocity.specs.Velocity.{rest}
 use Rattle.elem_velocity.specs.declared.SolverVel.{SolverVel}
 use Rattle.elem_velocity.specs.declared.Vels.{Vels}
@@ -31,7 +31,7 @@ reads_itself : (bodies : List Float) (body : ℕ) → reads body (vel_at bodies 
 unfolding reads
 reads_itself bodies body = by_case (is_floor body) refl
   where
-    by_case : (b : Bool) → is_floor body ≡ b → (if b then rest else vel_at bodies body) ≡ vel_at bodies body
+    by_case : (b : Bool) → is_floor body ≡ b → (if b then rest otherwise vel_at bodies body) ≡ vel_at bodies body
     by_case true e = sym (floor_rests bodies body e)
     by_case false e = refl
 
@@ -43,7 +43,7 @@ put_written : (l : List Float) (body : ℕ) (old new : SolverVel) → put_vel l 
 unfolding put_vel writes
 put_written l body old new = by_case (is_floor body) refl
   where
-    by_case : (b : Bool) → is_floor body ≡ b → put_vel l body (if b then old else new) ≡ put_vel l body new
+    by_case : (b : Bool) → is_floor body ≡ b → put_vel l body (if b then old otherwise new) ≡ put_vel l body new
     by_case true e = rw e
     by_case false e = refl
 
@@ -68,7 +68,7 @@ module _ (h : ContactHead) (v : Vels) where
   unfolding if_there as_written
   if_there_as_made n s o = by_case (ltb s.contact n)
     where
-      by_case : (b : Bool) → (if b then as_written h v o else Refused 2) ≡ as_written h v (if b then o else Refused 2)
+      by_case : (b : Bool) → (if b then as_written h v o otherwise Refused 2) ≡ as_written h v (if b then o otherwise Refused 2)
       by_case true = refl
       by_case false = refl
 

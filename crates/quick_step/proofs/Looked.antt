@@ -9,7 +9,7 @@ use borrow.Author.Tests.{eqb-true, le-ltb, lt-ltb}
 use lib.Dec.{eqb}
 use lib.Ieee.{Float}
 use Rattle.base_places.specs.Places.{body_width, floats_width}
-use Rattle.base_words.specs.Choice.{if◌then◌else◌}
+use Rattle.base_words.specs.Choice.{if◌then◌otherwise◌}
 use Rattle.base_words.proofs.Pick.{never, pass, take}
 use Rattle.base_words.proofs.Said.{all_l, all_r, none_l, none_r, not_so}
 use Rattle.base_refusals.specs.Refusals.{Condition, ◌when◌, first}
@@ -37,7 +37,7 @@ module _ (f : ℕ) (cs : List Condition) (made : ContactSolved) where
   one_of_two e = by_case (eqb f 5) (eqb f 6) refl refl e
     where
       by_case : (five six : Bool) → eqb f 5 ≡ five → eqb f 6 ≡ six → (five || six) ≡ true
-          → Refused f ≡ (if five then Refused 5 else if six then Refused 6 else first_or cs made)
+          → Refused f ≡ (if five then Refused 5 otherwise if six then Refused 6 otherwise first_or cs made)
       by_case true six p q e = ap (λ (n : ℕ). Refused n) (eqb-true f 5 p)
       by_case false true p q e = ap (λ (n : ℕ). Refused n) (eqb-true f 6 q)
       by_case false false p q e = never (sym e)

@@ -9,7 +9,7 @@ use lib.ListN.{length}
 use mir.Syntax.{w64}
 use mir.Val.{Fits}
 use Rattle.base_places.specs.Places.{step_width}
-use Rattle.base_words.specs.Choice.{if◌then◌else◌}
+use Rattle.base_words.specs.Choice.{if◌then◌otherwise◌}
 use Rattle.base_rows.specs.Rows.{rows}
 use Rattle.list_tables.specs.Tables.{step_at}
 use Rattle.list_cells.specs.Cells.{put_answer}
@@ -60,7 +60,7 @@ module _ (steps : List ℕ) (n : ℕ) (bodies₀ : List Float) (numbers : List �
 
     -- one step more
     pub go_on : (bodies' floats' : List Float) (room' flags' : List ℕ) (a : Answer) (r : ℕ) → i < n
-        → StepDone steps i (tables bodies numbers floats) room a (tables bodies' numbers floats') room' → r ≡ (if is_refused a then 1 else 0)
+        → StepDone steps i (tables bodies numbers floats) room a (tables bodies' numbers floats') room' → r ≡ (if is_refused a then 1 otherwise 0)
         → Trusting flags' (tables bodies' numbers floats') → length bodies' ≡ length bodies → length floats' ≡ length floats → length room' ≡ length room → length flags' ≡ length flags
         → SoFar steps n bodies₀ numbers floats₀ room₀ flags₀ bodies' floats' room' flags' (i + 1) (refused + r)
     go_on bodies' floats' room' flags' a r h turned ec right kb kf kr kg =
@@ -77,7 +77,7 @@ module _ (steps : List ℕ) (n : ℕ) (bodies₀ : List Float) (numbers : List �
         }
 
     -- the count fits where n does: no more were refused than were done
-    pub count_fits : (a : Answer) {r : ℕ} → i < n → Fits w64 n → r ≡ (if is_refused a then 1 else 0) → Fits w64 (refused + r)
+    pub count_fits : (a : Answer) {r : ℕ} → i < n → Fits w64 n → r ≡ (if is_refused a then 1 otherwise 0) → Fits w64 (refused + r)
     count_fits a h fits e =
         omega (arith, few_refused steps (tables bodies₀ numbers floats₀) room₀ i, ap (λ (w : Swept). w.refused) going.so_far, e, one_at_most (is_refused a))
 

@@ -3,7 +3,7 @@
 #![tactic(auto)]
 
 ghost use Rattle.std.specs.Prelude.{◌≡◌};
-ghost use Rattle.base_words.specs.Choice.{if◌then◌else◌};
+ghost use Rattle.base_words.specs.Choice.{if◌then◌otherwise◌};
 ghost use Rattle.list_rules.specs.Sweep.{is_refused, step_on, sweep, swept, tables};
 ghost use Rattle.quick_step.specs.Trusted.{Looked};
 ghost use Rattle.quick_sweep.specs.Flags.{Trusting, flagged, raised};
@@ -95,7 +95,7 @@ fn next_step(
 
 // 1 for a refusal, else 0.
 fn refusal(answer: Answer) -> usize
-    ensures { result ≡ (if is_refused answer then 1 else 0) }
+    ensures { result ≡ (if is_refused answer then 1 otherwise 0) }
 {
     if answer.number == 0 { 0 } else { 1 }
 }

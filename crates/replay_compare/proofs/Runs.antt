@@ -8,7 +8,7 @@ use mathlib.Core.Path.{◌≡◌, refl, ◌∙◌, ap}
 use lib.Dec.{eqb}
 use lib.ListN.{drop, drop_of_length-le, get_or, length, take}
 use lib.Seq.{drop-cons}
-use Rattle.base_words.specs.Choice.{if◌then◌else◌}
+use Rattle.base_words.specs.Choice.{if◌then◌otherwise◌}
 use Rattle.text_fields.specs.Fields.{Free}
 use Rattle.text_fields.proofs.Runs.{free_cons}
 use Rattle.replay_compare.specs.Spots.{compared_all, compared_to, longer_by, longer_line, next_of, off, shape_of}
@@ -71,7 +71,7 @@ longer_shape l (b ∷ run) = rw (one_longer l b) (longer_shape (l ++ (b ∷ []))
 
 -- the loop over a run: as long an output, and the rest of the run comes to the whole
 same_by : (p : Spot) (c b after : ℕ) (equal : Bool)
-    → (if equal then record { len = p.len; start = p.start; at = after; on = p.on; number = p.number } else off p).len ≡ p.len
+    → (if equal then record { len = p.len; start = p.start; at = after; on = p.on; number = p.number } otherwise off p).len ≡ p.len
 same_by p c b after true = refl
 same_by p c b after false = refl
 

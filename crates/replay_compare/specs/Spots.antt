@@ -1,7 +1,7 @@
 -- What is known of a line, and a spot in an output beside which a recorded one is read: their steps, for the functions of this crate.
 -- Assumes nothing.
 use Rattle.std.specs.Prelude.{ℕ, ◌+◌, Bool, false, List, [], ◌∷◌, eqb, ltb, get_or, length}
-use Rattle.base_words.specs.Choice.{if◌then◌else◌}
+use Rattle.base_words.specs.Choice.{if◌then◌otherwise◌}
 use Rattle.replay_compare.specs.declared.LineSoFar.{LineSoFar}
 use Rattle.replay_compare.specs.declared.LineSoFar.TheVariants.{Empty, More, One}
 use Rattle.replay_compare.specs.declared.Spot.{Spot}
@@ -32,7 +32,7 @@ holds_only More b = false
 
 -- the byte of o at a place, and the place after it
 abbrev pub next_of : List ℕ → ℕ → Next
-next_of o at = if ltb at (length o) then Byte (get_or o at 0) (at + 1) else End
+next_of o at = if ltb at (length o) then Byte (get_or o at 0) (at + 1) otherwise End
 
 -- a spot at which the recorded line has left the output's
 abbrev pub off : Spot → Spot
@@ -40,7 +40,7 @@ off p = record { len = p.len; start = p.start; at = p.at; on = false; number = p
 
 abbrev pub compared_to : Spot → Next → ℕ → Spot
 compared_to p (Byte c after) b =
-    if eqb c b then record { len = p.len; start = p.start; at = after; on = p.on; number = p.number } else off p
+    if eqb c b then record { len = p.len; start = p.start; at = after; on = p.on; number = p.number } otherwise off p
 compared_to p End b = off p
 
 -- a run of bytes beside the output o
@@ -54,11 +54,11 @@ met_at_end at (One b) = NextLine at
 met_at_end at More = NextLine at
 
 abbrev pub met_at : ℕ → Next → LineSoFar → Meeting
-met_at at (Byte c after) line = if eqb c 10 then NextLine after else Other
+met_at at (Byte c after) line = if eqb c 10 then NextLine after otherwise Other
 met_at at End line = met_at_end at line
 
 abbrev pub met_by : Spot → Next → LineSoFar → Meeting
-met_by p next line = if p.on then met_at p.at next line else Other
+met_by p next line = if p.on then met_at p.at next line otherwise Other
 
 abbrev pub end_number : Spot → ℕ
-end_number p = if ltb p.start p.len then p.number else 0
+end_number p = if ltb p.start p.len then p.number otherwise 0

@@ -1,7 +1,7 @@
 -- `judged`, byte after byte, with no more kept than what is still needed: of the input its bytes, of the output its lines that have not been
 -- met yet. A day's line is told where the first line that differs has ended, or else where the day ends. Assumes nothing.
 use Rattle.std.specs.Prelude.{ℕ, ◌+◌, Bool, false, List, [], ◌∷◌, ◌++◌, eqb, length}
-use Rattle.base_words.specs.Choice.{if◌then◌else◌}
+use Rattle.base_words.specs.Choice.{if◌then◌otherwise◌}
 use Rattle.text_output.specs.Output.{output}
 use Rattle.replay_days.specs.Judged.{lines_of, no_d, only_d, only_z, same, verdict}
 
@@ -34,26 +34,26 @@ ending day (missing ∷ left) n = verdict day n
 
 -- the part after a line: of the same day, or of the next where the line ended the day
 unfoldable pub part_after : Part → List ℕ → Part
-part_after (reading input) line = if only_d line then comparing (lines_of (output input)) 1 else reading (input ++ line ++ (10 ∷ []))
+part_after (reading input) line = if only_d line then comparing (lines_of (output input)) 1 otherwise reading (input ++ line ++ (10 ∷ []))
 part_after (comparing left n) line =
-    if only_z line then reading [] else if meets line left then comparing (rest_of left) (n + 1) else differing
-part_after differing line = if only_z line then reading [] else differing
+    if only_z line then reading [] otherwise if meets line left then comparing (rest_of left) (n + 1) otherwise differing
+part_after differing line = if only_z line then reading [] otherwise differing
 
 unfoldable pub day_after : ℕ → Part → List ℕ → ℕ
 day_after day (reading input) line = day
-day_after day (comparing left n) line = if only_z line then day + 1 else day
-day_after day differing line = if only_z line then day + 1 else day
+day_after day (comparing left n) line = if only_z line then day + 1 otherwise day
+day_after day differing line = if only_z line then day + 1 otherwise day
 
 -- what a line tells
 unfoldable pub line_tells : ℕ → Part → List ℕ → List ℕ
 line_tells day (reading input) line = []
 line_tells day (comparing left n) line =
-    if only_z line then ending day left n else if meets line left then [] else verdict day n
+    if only_z line then ending day left n otherwise if meets line left then [] otherwise verdict day n
 line_tells day differing line = []
 
 -- what the end of the file tells, after whole lines
 unfoldable pub end_tells : ℕ → Part → List ℕ
-end_tells day (reading input) = if eqb (length input) 0 then [] else no_d day
+end_tells day (reading input) = if eqb (length input) 0 then [] otherwise no_d day
 end_tells day (comparing left n) = ending day left n
 end_tells day differing = []
 
@@ -70,10 +70,10 @@ line_ended g = record { day = day_after g.day g.part g.line; part = part_after g
 
 -- one byte more
 unfoldable pub fed : Going → ℕ → Going
-fed g b = if eqb b 10 then line_ended g else record { day = g.day; part = g.part; line = g.line ++ (b ∷ []) }
+fed g b = if eqb b 10 then line_ended g otherwise record { day = g.day; part = g.part; line = g.line ++ (b ∷ []) }
 
 unfoldable pub byte_tells : Going → ℕ → List ℕ
-byte_tells g b = if eqb b 10 then line_says g else []
+byte_tells g b = if eqb b 10 then line_says g otherwise []
 
 unfoldable pub feeds : Going → List ℕ → Going
 feeds g [] = g
@@ -85,7 +85,7 @@ tells g (b ∷ s) = byte_tells g b ++ tells (fed g b) s
 
 -- the end of the file: what stands after the last byte 10, if anything, is a line too
 unfoldable pub finish : Going → List ℕ
-finish g = if eqb (length g.line) 0 then end_tells g.day g.part else last_says g
+finish g = if eqb (length g.line) 0 then end_tells g.day g.part otherwise last_says g
 
 unfoldable pub start : Going
 start = record { day = 1; part = reading []; line = [] }

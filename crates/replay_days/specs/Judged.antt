@@ -1,14 +1,14 @@
 -- Document 02, E1: from the bytes of a file of recorded nights to the bytes that are written of it. Assumes nothing.
 use Rattle.std.specs.Prelude.{ℕ, zero, suc, ◌+◌, Bool, true, false, ◌&&◌, List, [], ◌∷◌, ◌++◌, eqb, length}
-use Rattle.base_words.specs.Choice.{if◌then◌else◌}
+use Rattle.base_words.specs.Choice.{if◌then◌otherwise◌}
 use Rattle.text_digits.specs.Digits.{dec_bytes, dec_field}
 use Rattle.text_output.specs.Output.{output}
 
 -- the lines of a text after the bytes `line` of its first: byte 10 ends a line, and what stands after the last byte 10, if anything, is a
 -- line too
 unfoldable pub lines_from : List ℕ → List ℕ → List (List ℕ)
-lines_from line [] = if eqb (length line) 0 then [] else line ∷ []
-lines_from line (b ∷ s) = if eqb b 10 then line ∷ lines_from [] s else lines_from (line ++ (b ∷ [])) s
+lines_from line [] = if eqb (length line) 0 then [] otherwise line ∷ []
+lines_from line (b ∷ s) = if eqb b 10 then line ∷ lines_from [] s otherwise lines_from (line ++ (b ∷ [])) s
 
 unfoldable pub lines_of : List ℕ → List (List ℕ)
 lines_of s = lines_from [] s
@@ -32,7 +32,7 @@ unfoldable pub first_differing : ℕ → List (List ℕ) → List (List ℕ) →
 first_differing n [] [] = 0
 first_differing n [] (surplus ∷ recorded) = n
 first_differing n (missing ∷ lines) [] = n
-first_differing n (line ∷ lines) (r ∷ recorded) = if same line r then first_differing (n + 1) lines recorded else n
+first_differing n (line ∷ lines) (r ∷ recorded) = if same line r then first_differing (n + 1) lines recorded otherwise n
 
 -- "one line a day, fields parted by a tab": the day's number, and the other fields, each after its tab
 unfoldable pub day_line : ℕ → List ℕ → List ℕ
@@ -59,16 +59,16 @@ pub data Day : Type 0 where
 -- what is written of the lines that follow, where so much of day n has been read
 unfoldable pub judged_from : ℕ → Day → List (List ℕ) → List ℕ
 -- "an empty file writes nothing", and nothing is written where no line follows a day
-judged_from n (input_of input) [] = if eqb (length input) 0 then [] else no_d n
+judged_from n (input_of input) [] = if eqb (length input) 0 then [] otherwise no_d n
 -- "an input up to a line holding only D"
 judged_from n (input_of input) (line ∷ lines) =
-    if only_d line then judged_from n (record_of input []) lines else judged_from n (input_of (input ++ line ++ (10 ∷ []))) lines
+    if only_d line then judged_from n (record_of input []) lines otherwise judged_from n (input_of (input ++ line ++ (10 ∷ []))) lines
 -- "the last Z may be missing"
 judged_from n (record_of input recorded) [] = compared n input recorded
 -- "then the output up to a line holding only Z"
 judged_from n (record_of input recorded) (line ∷ lines) =
     if only_z line then compared n input recorded ++ judged_from (n + 1) (input_of []) lines
-    else judged_from n (record_of input (recorded ++ (line ∷ []))) lines
+    otherwise judged_from n (record_of input (recorded ++ (line ∷ []))) lines
 
 -- "day number from 1"
 unfoldable pub judged : List ℕ → List ℕ

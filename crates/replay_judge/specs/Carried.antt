@@ -1,6 +1,6 @@
 -- The steps of the program on what it carries, for the functions of this crate. Assumes nothing.
 use Rattle.std.specs.Prelude.{ℕ, Bool, true, false, List}
-use Rattle.base_words.specs.Choice.{if◌then◌else◌}
+use Rattle.base_words.specs.Choice.{if◌then◌otherwise◌}
 use Rattle.base_places.specs.Lengths.{one_more}
 use Rattle.text_line.specs.Filled.{Cells, cells}
 use Rattle.text_read.specs.Carried.{fresh}
@@ -41,7 +41,7 @@ next_line day p start at = record {
 
 abbrev pub differing_after : ℕ → LineSoFar → ℕ → Turned
 differing_after day line at =
-    if holds_only line 90 then next_day day at else record { judge = record { day = day; line = Empty; part = Differing }; at = at }
+    if holds_only line 90 then next_day day at otherwise record { judge = record { day = day; line = Empty; part = Differing }; at = at }
 
 -- no byte has been read of a line
 abbrev pub is_empty : LineSoFar → Bool

@@ -1,6 +1,6 @@
 -- What the program carries, for a file of which so much has been read, for the contracts of the functions of this crate. Assumes nothing.
 use Rattle.std.specs.Prelude.{ℕ, ◌+◌, ◌-◌, ◌≤◌, ◌<◌, not, List, [], ◌++◌, ◌≡◌, eqb, drop, length, take}
-use Rattle.base_words.specs.Choice.{if◌then◌else◌}
+use Rattle.base_words.specs.Choice.{if◌then◌otherwise◌}
 use Rattle.base_places.specs.Lengths.{largest}
 use Rattle.text_digits.specs.Wrote.{Wrote}
 use Rattle.text_line.specs.Filled.{room_of}
@@ -38,7 +38,7 @@ use Rattle.replay_compare.specs.Meets.{Meets}
 
 -- a D may be the end of the input: it is held back until its line goes on
 abbrev pub held_back : List ℕ → List ℕ
-held_back line = if only_d line then [] else line
+held_back line = if only_d line then [] otherwise line
 
 -- the reader of a day's input has been fed the lines x and what there is of the next
 pub record Follows (f : Feeding) (input : Buffers) (x line : List ℕ) : Type 0 where

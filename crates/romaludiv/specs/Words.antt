@@ -1,7 +1,7 @@
 -- Document 02, E8, "carries a state between them": a reader as ten words, which a host keeps between its calls. A host can put anything
 -- into its memory, so any words are a reader. Assumes nothing.
 use Rattle.std.specs.Prelude.{ℕ, ◌≤◌, min, Bool, not, List, [], ◌∷◌, ◌≡◌, eqb, get_or}
-use Rattle.base_words.specs.Choice.{if◌then◌else◌}
+use Rattle.base_words.specs.Choice.{if◌then◌otherwise◌}
 use Rattle.text_line.specs.Filled.{Cells, Sane}
 use Rattle.text_line.specs.declared.Place.{Place}
 use Rattle.text_line.specs.declared.Place.TheVariants.{Bodies, NormalA, TangentA, NormalB, TangentB, Contacts, Steps}
@@ -19,7 +19,7 @@ abbrev pub largest_reason : ℕ
 largest_reason = 255
 
 abbrev pub came_of : ℕ → ℕ → Came
-came_of bad reason = if eqb bad 0 then Fine else Bad (min reason largest_reason)
+came_of bad reason = if eqb bad 0 then Fine otherwise Bad (min reason largest_reason)
 
 abbrev pub word : List ℕ → ℕ → ℕ
 word words i = get_or words i 0
@@ -42,7 +42,7 @@ reader_of words = record {
 
 -- and the words that a reader becomes
 abbrev pub bit : Bool → ℕ
-bit b = if b then 1 else 0
+bit b = if b then 1 otherwise 0
 
 abbrev pub bad_word : Came → ℕ
 bad_word Fine = 0

@@ -5,7 +5,7 @@ use mathlib.Core.List.{List, [], ◌∷◌}
 use mathlib.Core.Path.{◌≡◌, refl, sym, ◌∙◌}
 use lib.Dec.{ltb}
 use lib.Ieee.{Float}
-use Rattle.base_words.specs.Choice.{if◌then◌else◌}
+use Rattle.base_words.specs.Choice.{if◌then◌otherwise◌}
 use Rattle.base_words.proofs.Pick.{never}
 use Rattle.base_places.specs.Places.{cells}
 use Rattle.base_places.specs.declared.Cell.{Cell}
@@ -17,7 +17,7 @@ use Rattle.step_kinds.specs.Stored.{stored, stored_at, stored_in}
 
 -- a point is stored to only where it is below count, said of each cell or of the point
 stored_below : (below : Bool) (which : Cell → Bool) (p q : ContactPoint)
-    → stored_at (λ c. below && which c) p q ≡ (if below then stored_at which p q else p)
+    → stored_at (λ c. below && which c) p q ≡ (if below then stored_at which p q otherwise p)
 unfolding stored_in
 stored_below true which p q = refl
 stored_below false which p q = refl
@@ -44,9 +44,9 @@ pub outlasts : (P : ContactPoint → Type 0) (cs : List Cell) (which : Cell → 
 unfolding stored_in
 outlasts P [] which p q holds each = holds
 outlasts P (c ∷ cs) which p q holds each =
-    outlasts P cs which (if which c then with_cell c p (in_cell c q) else p) q (by_case (which c) refl) each
+    outlasts P cs which (if which c then with_cell c p (in_cell c q) otherwise p) q (by_case (which c) refl) each
   where
-    by_case : (b : Bool) → which c ≡ b → P (if b then with_cell c p (in_cell c q) else p)
+    by_case : (b : Bool) → which c ≡ b → P (if b then with_cell c p (in_cell c q) otherwise p)
     by_case true e = each c p e holds
     by_case false e = holds
 

@@ -1,7 +1,7 @@
 -- Document 01, "Arithmetic": the routines, each with a contact and the velocities of its bodies. A rule is said once, at one point; then
 -- over the points below count, a then b. Which kind of step has which routine stands in Table.antt. Assumes nothing.
 use Rattle.std.specs.Prelude.{ℕ, ltb}
-use Rattle.base_words.specs.Choice.{if◌then◌else◌}
+use Rattle.base_words.specs.Choice.{if◌then◌otherwise◌}
 use Rattle.elem_leaves.specs.Floats.{◌*f◌}
 use Rattle.elem_leaves.specs.Leaves.{tangent}
 use Rattle.elem_velocity.specs.declared.Vels.{Vels}
@@ -54,7 +54,7 @@ at_point Restitution = restitution_at
 
 -- only on points below count: a has place 0, b has place 1
 unfoldable pub turn : Rule → ℕ → ContactHead → ContactPoint → Vels → PointSolved
-turn rule place h p v = if ltb place h.count then at_point rule h p v else (record { point = p; vels = v })
+turn rule place h p v = if ltb place h.count then at_point rule h p v otherwise (record { point = p; vels = v })
 
 -- a then b
 unfoldable pub over_points : Rule → Contact → Vels → ContactSolved

@@ -8,7 +8,7 @@ use mathlib.Core.Path.{◌≡◌, refl}
 use borrow.Author.Tests.{lt-ltb, ltb-true}
 use lib.Dec.{ltb}
 use lib.Ieee.{Float}
-use Rattle.base_words.specs.Choice.{if◌then◌else◌}
+use Rattle.base_words.specs.Choice.{if◌then◌otherwise◌}
 use Rattle.base_words.specs.Each.{Each}
 use Rattle.base_words.proofs.Each.{◌and◌, each_at}
 use Rattle.base_places.specs.declared.Cell.TheVariants.{NormalImpulse}
@@ -65,7 +65,7 @@ module _ (h : ContactHead) (p : ContactPoint) (v : Vels) where
   turn_pushes rule x there = by_case (ltb (number x) h.count) (λ e. there (ltb-true (number x) h.count e))
     where
       by_case : (b : Bool) → (b ≡ true → Pushes (held p) (held (at_point rule h p v).point))
-          → Pushes (held p) (held (if b then at_point rule h p v else (record { point = p; vels = v })).point)
+          → Pushes (held p) (held (if b then at_point rule h p v otherwise (record { point = p; vels = v })).point)
       by_case true f = f refl
       by_case false f = inl refl
 

@@ -4,7 +4,7 @@ use native.Mathlib.Omega.{arith}
 use mathlib.Core.Path.{◌≡◌, refl, sym, ◌∙◌, ap}
 use mathlib.Core.Bool.{Bool, true, false}
 use mathlib.Core.List.{List, [], ◌∷◌}
-use Rattle.base_words.specs.Choice.{if◌then◌else◌}
+use Rattle.base_words.specs.Choice.{if◌then◌otherwise◌}
 use Rattle.base_words.proofs.Pick.{take, pass}
 use Rattle.elem_velocity.specs.declared.Vels.{Vels}
 use Rattle.step_kinds.specs.Table.{routine}
@@ -53,7 +53,7 @@ read_and_written c kind v seen rows tried-to p q e = cc
 
 -- with wrong bodies a step is refused, whatever the velocities are
 refused_first : (c : Contact) (kind : ℕ) (v : Vels) (rows : ℕ) → wrong_bodies c.head rows ≡ true
-    → (if kind_above kind then Refused 3 else Refused 5) ≡ tried c kind v rows
+    → (if kind_above kind then Refused 3 otherwise Refused 5) ≡ tried c kind v rows
 unfolding tried conditions asked checks holds_of first_or
 refused_first c kind v rows wrong = rw wrong
 
@@ -65,6 +65,6 @@ wrong_bodies_first c kind v w rows wrong =
     ∙ by_case (kind_above kind)
     ∙ ap (as_written c.head w) (refused_first c kind (as_read c.head w) rows wrong)
   where
-    by_case : (b : Bool) → as_written c.head v (if b then Refused 3 else Refused 5) ≡ as_written c.head w (if b then Refused 3 else Refused 5)
+    by_case : (b : Bool) → as_written c.head v (if b then Refused 3 otherwise Refused 5) ≡ as_written c.head w (if b then Refused 3 otherwise Refused 5)
     by_case true = refl
     by_case false = refl

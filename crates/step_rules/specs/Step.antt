@@ -1,7 +1,7 @@
 -- Document 01, "Numbers that refuse" and "Tables": one step, as a function of a contact, a kind, the velocities of its two bodies and
 -- the number of rows of the body table. Assumes nothing.
 use Rattle.std.specs.Prelude.{ℕ, Bool, ◌||◌, List, [], ◌∷◌}
-use Rattle.base_words.specs.Choice.{if◌then◌else◌}
+use Rattle.base_words.specs.Choice.{if◌then◌otherwise◌}
 use Rattle.elem_velocity.specs.Velocity.{rest}
 use Rattle.elem_velocity.specs.declared.SolverVel.{SolverVel}
 use Rattle.elem_velocity.specs.declared.Vels.{Vels}
@@ -18,14 +18,14 @@ use Rattle.step_rules.specs.declared.Outcome.TheVariants.{Refused, Done}
 
 -- Body number 65535 is the floor: it reads as zero velocity ..
 unfoldable pub reads : ℕ → SolverVel → SolverVel
-reads body v = if is_floor body then rest else v
+reads body v = if is_floor body then rest otherwise v
 
 unfoldable pub as_read : ContactHead → Vels → Vels
 as_read h v = record { v1 = reads h.body1 v.v1; v2 = reads h.body2 v.v2 }
 
 -- .. and is never written
 unfoldable pub writes : ℕ → SolverVel → SolverVel → SolverVel
-writes body old new = if is_floor body then old else new
+writes body old new = if is_floor body then old otherwise new
 
 unfoldable pub written_vels : ContactHead → Vels → Vels → Vels
 written_vels h old new = record { v1 = writes h.body1 old.v1 new.v1; v2 = writes h.body2 old.v2 new.v2 }
@@ -79,7 +79,7 @@ conditions c kind v rows = asked checks c kind v rows
 -- the first condition that holds refuses the step; where none does, it is done
 unfoldable pub first_or : List Condition → ContactSolved → Outcome
 first_or [] done = Done done
-first_or (c ∷ cs) done = if c.holds then Refused c.number else first_or cs done
+first_or (c ∷ cs) done = if c.holds then Refused c.number otherwise first_or cs done
 
 unfoldable pub tried : Contact → ℕ → Vels → ℕ → Outcome
 tried c kind v rows = first_or (conditions c kind v rows) (routine kind c v)

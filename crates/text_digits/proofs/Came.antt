@@ -8,7 +8,7 @@ use mathlib.Core.List.{List, [], ◌∷◌}
 use borrow.Author.Tests.{eq-eqb, eqb-true, eqb-false, leb-true, lt-ltb, ltb-true}
 use lib.Dec.{eqb, leb, ltb}
 use lib.ListN.{get_or, length}
-use Rattle.base_words.specs.Choice.{if◌then◌else◌}
+use Rattle.base_words.specs.Choice.{if◌then◌otherwise◌}
 use Rattle.base_words.proofs.Pick.{never}
 use Rattle.base_words.proofs.Said.{all_l, all_r}
 use Rattle.text_digits.specs.declared.Number.{Number}
@@ -22,11 +22,11 @@ none_is e = absurd (let z : ◌≡◌ {A = ℕ} 0 1 = cc in omega arith)
 
 -- a choice between a number and none
 module _ {x : Number} {n : ℕ} where
-  first : (t : Bool) → (if t then x else No) ≡ Is n → (t ≡ true) × (x ≡ Is n)
+  first : (t : Bool) → (if t then x otherwise No) ≡ Is n → (t ≡ true) × (x ≡ Is n)
   first true e = (refl, e)
   first false e = none_is e
 
-  second : (t : Bool) → (if t then No else x) ≡ Is n → (t ≡ false) × (x ≡ Is n)
+  second : (t : Bool) → (if t then No otherwise x) ≡ Is n → (t ≡ false) × (x ≡ Is n)
   second true e = none_is e
   second false e = (refl, e)
 

@@ -7,14 +7,14 @@ use mathlib.Core.Bool.{◌&&◌}
 use mathlib.Core.Logic.{◌⊎◌, inl, inr}
 use lib.Dec.{leb}
 use borrow.Author.Tests.{le-leb, lt-leb, lt-ltb, le-ltb}
-use Rattle.base_words.specs.Choice.{if◌then◌else◌}
+use Rattle.base_words.specs.Choice.{if◌then◌otherwise◌}
 use Rattle.base_words.proofs.Pick.{take, pass}
 use Rattle.text_digits.specs.Digits.{digit_of, glyph}
 use Rattle.text_digits.proofs.Tests.{both, not_first, not_second}
 
 -- what a byte counts among the letters
 abbrev among : ℕ → ℕ
-among b = if leb 97 b && leb b 102 then b - 87 else 16
+among b = if leb 97 b && leb b 102 then b - 87 otherwise 16
 
 -- by where the byte lies
 module _ (b : ℕ) where

@@ -13,7 +13,7 @@ use Rattle.base_words.proofs.Said.{all_l, all_r}
 use Rattle.text_digits.specs.declared.Number.TheVariants.{Is, No}
 use Rattle.text_digits.specs.Digits.{digit_of, hex_of, number_from}
 use Rattle.text_digits.proofs.Accepted.{hex_number}
-use Rattle.text_digits.proofs.Turn.{Left, in_range, none, over, turn, whole}
+use Rattle.text_digits.proofs.Turn.{none, over, turn, whole}
 
 -- a byte that is no digit of the base, wherever it stands: no number
 by_first : (base limit n b : ℕ) (s : List ℕ) (t : Bool) → (ltb (digit_of b) base && leb (n * base + digit_of b) limit) ≡ t

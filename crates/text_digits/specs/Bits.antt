@@ -3,7 +3,7 @@
 use Rattle.std.specs.Prelude.{ℕ, ◌≤◌, ◌≡◌, Float}
 use Rattle.std.specs.Float.{binary32}
 use Rattle.std.specs.Float.Ieee.{is_nan, of_bits, to_bits}
-use Rattle.base_words.specs.Choice.{if◌then◌else◌}
+use Rattle.base_words.specs.Choice.{if◌then◌otherwise◌}
 
 -- the float that a pattern stands for
 abbrev pub value_of : ℕ → Float
@@ -11,7 +11,7 @@ value_of bits = of_bits binary32 bits
 
 -- the pattern that is printed for x, beside which `kept` was kept
 unfoldable pub printed : Float → ℕ → ℕ
-printed x kept = if is_nan x then kept else to_bits binary32 x
+printed x kept = if is_nan x then kept otherwise to_bits binary32 x
 
 -- a float as it was read is printed with the bits that were read, a NaN's too. Proved in proofs/Printed.antt
 abbrev pub PrintedAsRead : Type 0

@@ -1,35 +1,35 @@
 -- Document 01, "Text form": "floats are the bits as eight lower-case hex digits; other numbers are decimal, 0 to 65535, no leading zero",
 -- as they are read and as they are written. A byte is a number, a text a list of bytes. Assumes nothing.
 use Rattle.std.specs.Prelude.{ℕ, zero, suc, ◌+◌, ◌-◌, ◌*◌, ◌/◌, ◌%◌, ◌&&◌, List, [], ◌∷◌, ◌++◌, eqb, leb, ltb, get_or, length}
-use Rattle.base_words.specs.Choice.{if◌then◌else◌}
+use Rattle.base_words.specs.Choice.{if◌then◌otherwise◌}
 use Rattle.text_digits.specs.declared.Number.{Number}
 use Rattle.text_digits.specs.declared.Number.TheVariants.{Is, No}
 
 -- '0' to '9' are 0 to 9, 'a' to 'f' are 10 to 15; any other byte is no digit, which 16 says
 unfoldable pub digit_of : ℕ → ℕ
-digit_of b = if leb 48 b && leb b 57 then b - 48 else if leb 97 b && leb b 102 then b - 87 else 16
+digit_of b = if leb 48 b && leb b 57 then b - 48 otherwise if leb 97 b && leb b 102 then b - 87 otherwise 16
 
 -- the bytes as digits of a base, the highest first, after the number n that was read before them; no number once a byte is no digit of
 -- the base, or the number is above the limit
 unfoldable pub number_from : ℕ → ℕ → ℕ → List ℕ → Number
 number_from base limit n [] = Is n
 number_from base limit n (b ∷ s) =
-    if ltb (digit_of b) base && leb (n * base + digit_of b) limit then number_from base limit (n * base + digit_of b) s else No
+    if ltb (digit_of b) base && leb (n * base + digit_of b) limit then number_from base limit (n * base + digit_of b) s otherwise No
 
 -- "eight lower-case hex digits"
 unfoldable pub hex_of : List ℕ → Number
-hex_of s = if eqb (length s) 8 then number_from 16 0xffff_ffff 0 s else No
+hex_of s = if eqb (length s) 8 then number_from 16 0xffff_ffff 0 s otherwise No
 
 -- "decimal, 0 to 65535, no leading zero": at least one digit, and a first 0 stands alone
 unfoldable pub dec_of : List ℕ → Number
 dec_of s =
     if eqb (length s) 0 then No
-    else if eqb (get_or s 0 0) 48 && ltb 1 (length s) then No
-    else number_from 10 65535 0 s
+    otherwise if eqb (get_or s 0 0) 48 && ltb 1 (length s) then No
+    otherwise number_from 10 65535 0 s
 
 -- the byte of a digit
 unfoldable pub glyph : ℕ → ℕ
-glyph d = if ltb d 10 then 48 + d else 87 + d
+glyph d = if ltb d 10 then 48 + d otherwise 87 + d
 
 -- k hex digits
 unfoldable pub hex_digits : ℕ → ℕ → List ℕ
@@ -42,7 +42,7 @@ hex_bytes n = hex_digits 8 n
 -- a decimal number of at most k digits, with no leading zero
 unfoldable pub dec_digits : ℕ → ℕ → List ℕ
 dec_digits zero n = []
-dec_digits (suc k) n = if ltb n 10 then glyph n ∷ [] else dec_digits k (n / 10) ++ (glyph (n % 10) ∷ [])
+dec_digits (suc k) n = if ltb n 10 then glyph n ∷ [] otherwise dec_digits k (n / 10) ++ (glyph (n % 10) ∷ [])
 
 -- twenty are enough for any number that a program holds
 unfoldable pub dec_bytes : ℕ → List ℕ

@@ -3,7 +3,7 @@
 #![tactic(auto)]
 
 ghost use Rattle.std.specs.Prelude.{◌≡◌, [], ◌∷◌, ◌&&◌, ◌+◌, ◌-◌, ◌*◌, ◌≤◌, ◌<◌, leb, length};
-ghost use Rattle.base_words.specs.Choice.{if◌then◌else◌};
+ghost use Rattle.base_words.specs.Choice.{if◌then◌otherwise◌};
 ghost use Rattle.text_digits.specs.Digits.{digit_of, number_from, hex_of, dec_of, dec_bytes, dec_digits, hex_digits, dec_field, hex_field};
 ghost use Rattle.text_digits.specs.Digits.{glyph as Digits·glyph};
 ghost use Rattle.text_digits.specs.Bits.{value_of, printed};
@@ -18,7 +18,7 @@ pub enum Number {
 
 // What a byte counts as a digit among the letters: 16 where it is none.
 fn letter(b: u8) -> u64
-    ensures { result ≡ (if leb 97 b && leb b 102 then b - 87 else 16) }
+    ensures { result ≡ (if leb 97 b && leb b 102 then b - 87 otherwise 16) }
 {
     match b {
         b'a'..=b'f' => (b - 87) as u64,

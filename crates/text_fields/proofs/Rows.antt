@@ -8,7 +8,7 @@ use mathlib.Core.Path.{◌≡◌, refl, sym, ◌∙◌}
 use lib.Dec.{ltb}
 use lib.ListN.{drop, get_or, length, take}
 use lib.Seq.{length-take-le}
-use Rattle.base_words.specs.Choice.{if◌then◌else◌}
+use Rattle.base_words.specs.Choice.{if◌then◌otherwise◌}
 use Rattle.text_fields.specs.Fields.{Nothing, Says, ended, fields, fields_from, takes, then_bits, until, values}
 use Rattle.text_fields.specs.Got.{Adds, ReadFields, ReadRow, got_from, row_says}
 use Rattle.text_fields.specs.Letters.{after_letter, asked, letter_in, letter_of, line_letter, says}
@@ -53,7 +53,7 @@ module _ (s : List ℕ) (end : ℕ) (at_end : end ≡ 0 + until 9 (drop 0 s)) wh
     -- by whether all were good, and a field is left over
     ends : (good good2 over : Bool) → ltb (length s) two.next ≡ over
         → got_from good2 two.next two.values k s ≡ takes Hex [] k (fields_from s one.next)
-        → (if good && good2 && over then Says (take d one.values) (take k two.values) else Nothing)
+        → (if good && good2 && over then Says (take d one.values) (take k two.values) otherwise Nothing)
         ≡ then_bits k (got_from good one.next one.values d s)
     unfolding then_bits got_from ended
     ends false good2 over e t = refl

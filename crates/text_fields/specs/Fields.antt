@@ -1,6 +1,6 @@
 -- Document 01, "Text form": "fields parted by one tab", and what fields say as numbers. Assumes nothing.
 use Rattle.std.specs.Prelude.{ℕ, zero, suc, List, [], ◌∷◌, ◌++◌, ◌≡◌, eqb, leb, drop, length}
-use Rattle.base_words.specs.Choice.{if◌then◌else◌}
+use Rattle.base_words.specs.Choice.{if◌then◌otherwise◌}
 use Rattle.text_digits.specs.Digits.{dec_of, hex_of}
 use Rattle.text_digits.specs.declared.Number.{Number}
 use Rattle.text_digits.specs.declared.Number.TheVariants.{Is, No}
@@ -15,12 +15,12 @@ onto b (f ∷ fs) = (b ∷ f) ∷ fs
 -- the fields of a line: a tab, byte 9, parts two
 unfoldable pub fields : List ℕ → List (List ℕ)
 fields [] = [] ∷ []
-fields (b ∷ s) = if eqb b 9 then [] ∷ fields s else onto b (fields s)
+fields (b ∷ s) = if eqb b 9 then [] ∷ fields s otherwise onto b (fields s)
 
 -- how many bytes stand before the first that is e; all of them, where none is
 unfoldable pub until : ℕ → List ℕ → ℕ
 until e [] = 0
-until e (b ∷ s) = if eqb b e then 0 else suc (until e s)
+until e (b ∷ s) = if eqb b e then 0 otherwise suc (until e s)
 
 -- no byte of a run is e
 abbrev pub Free : ℕ → List ℕ → Type 0
@@ -28,7 +28,7 @@ Free e run = until e run ≡ length run
 
 -- the fields from byte `at` on; past the end there are none left
 unfoldable pub fields_from : List ℕ → ℕ → List (List ℕ)
-fields_from s at = if leb at (length s) then fields (drop at s) else []
+fields_from s at = if leb at (length s) then fields (drop at s) otherwise []
 
 -- "floats are the bits as eight lower-case hex digits; other numbers are decimal"
 abbrev pub in_form : Form → List ℕ → Number

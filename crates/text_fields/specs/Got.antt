@@ -1,7 +1,7 @@
 -- What the functions that read fields hand to each other, and to those that read lines. For the functions of this crate and of those
 -- above. Assumes nothing.
 use Rattle.std.specs.Prelude.{ℕ, suc, ◌+◌, ◌≤◌, Bool, List, [], ◌∷◌, ◌++◌, ◌≡◌, take}
-use Rattle.base_words.specs.Choice.{if◌then◌else◌}
+use Rattle.base_words.specs.Choice.{if◌then◌otherwise◌}
 use Rattle.base_places.specs.Places.{normal_width}
 use Rattle.text_fields.specs.Fields.{None, Nothing, Says, Taken, These, Values, fields_from, takes}
 use Rattle.text_fields.specs.Letters.{adds, asked, says}
@@ -41,7 +41,7 @@ pub record ReadField (form : Form) (s : List ℕ) (at : ℕ) (r : Field) : Type 
 
 -- the first n of what was got, and the fields of s from `next` on
 unfoldable pub got_from : Bool → ℕ → List ℕ → ℕ → List ℕ → Taken
-got_from good next got n s = if good then These (take n got) (fields_from s next) else None
+got_from good next got n s = if good then These (take n got) (fields_from s next) otherwise None
 
 -- n fields were read
 pub record ReadFields (form : Form) (s : List ℕ) (from n : ℕ) (r : Got) : Type 0 where
@@ -50,7 +50,7 @@ pub record ReadFields (form : Form) (s : List ℕ) (from n : ℕ) (r : Got) : Ty
 
 -- what a row's first numbers say
 unfoldable pub row_says : Letter → Row → Values
-row_says l r = if r.good then Says (take (asked Decimal l) r.numbers) (take (asked Hex l) r.bits) else Nothing
+row_says l r = if r.good then Says (take (asked Decimal l) r.numbers) (take (asked Hex l) r.bits) otherwise Nothing
 
 -- a whole line was read
 pub record ReadRow (l : Letter) (line : List ℕ) (r : Row) : Type 0 where

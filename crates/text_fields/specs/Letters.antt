@@ -1,6 +1,6 @@
 -- Document 01, "Text form": the letters, and how many numbers follow each. Assumes nothing.
 use Rattle.std.specs.Prelude.{ℕ, ◌+◌, List, [], ◌∷◌, eqb, get_or, length}
-use Rattle.base_words.specs.Choice.{if◌then◌else◌}
+use Rattle.base_words.specs.Choice.{if◌then◌otherwise◌}
 use Rattle.base_places.specs.Places.{body_width, head_width, normal_width, numbers_width, step_width, tangent_width}
 use Rattle.text_fields.specs.Fields.{Values, fields, values}
 use Rattle.text_fields.specs.declared.Counts.{Counts}
@@ -13,16 +13,16 @@ use Rattle.text_fields.specs.declared.Letter.TheVariants.{Body, Contact, Normal,
 unfoldable pub letter_of : ℕ → Letter
 letter_of b =
     if eqb b 66 then Body
-    else if eqb b 67 then Contact
-    else if eqb b 78 then Normal
-    else if eqb b 84 then Tangent
-    else if eqb b 83 then Step
-    else Other
+    otherwise if eqb b 67 then Contact
+    otherwise if eqb b 78 then Normal
+    otherwise if eqb b 84 then Tangent
+    otherwise if eqb b 83 then Step
+    otherwise Other
 
 -- "first field no known letter (an empty line too)": one byte, and a known one
 unfoldable pub letter_in : List (List ℕ) → Letter
 letter_in [] = Other
-letter_in (f ∷ fs) = if eqb (length f) 1 then letter_of (get_or f 0 0) else Other
+letter_in (f ∷ fs) = if eqb (length f) 1 then letter_of (get_or f 0 0) otherwise Other
 
 -- B (x y w); C (body1 body2 count dir.x dir.y im1.x im1.y im2.x im2.y friction k12 flag); N, T "in the field orders above";
 -- S (contact kind): how many numbers a line adds to each table

@@ -2,7 +2,7 @@
 -- "2 first field no known letter (an empty line too), 3 letter out of order .., 4 field count or field form, 5 table full; tested in
 -- that order"
 use Rattle.std.specs.Prelude.{ℕ, ◌+◌, Bool, true, false, ◌||◌, List, ◌++◌, eqb, ltb, length, take}
-use Rattle.base_words.specs.Choice.{if◌then◌else◌}
+use Rattle.base_words.specs.Choice.{if◌then◌otherwise◌}
 use Rattle.base_places.specs.Places.{floats_width}
 use Rattle.text_fields.specs.Fields.{Nothing, Says, Values}
 use Rattle.text_fields.specs.Letters.{adds, line_letter, says}
@@ -29,7 +29,7 @@ is l m = eqb (number l) (number m)
 
 -- "First all B; then each contact as C, N, T, N, T; then all S": where a letter leads from a place
 abbrev pub on : Letter → Letter → Place → Next → Next
-on l awaited place other = if is l awaited then To place else other
+on l awaited place other = if is l awaited then To place otherwise other
 
 abbrev pub next_place : Letter → Place → Next
 next_place l Bodies = on l Body Bodies (on l Contact NormalA (on l Step Steps OutOfOrder))
@@ -56,7 +56,7 @@ lacks room more l = ltb room (length l + more)
 
 -- a contact's room is asked for whole, at its C line
 abbrev pub asks_floats : Letter → ℕ
-asks_floats l = if is l Contact then floats_width else (adds l).floats
+asks_floats l = if is l Contact then floats_width otherwise (adds l).floats
 
 unfoldable pub full : Counts → Letter → Night → Bool
 full room l t =
@@ -82,7 +82,7 @@ pub data LineCame : Type 0 where
 -- 4, then 5
 unfoldable pub filled : Counts → Letter → Place → Night → Values → LineCame
 filled room l place t Nothing = bad 4
-filled room l place t (Says numbers bits) = if full room l t then bad 5 else good (put l place numbers bits t)
+filled room l place t (Says numbers bits) = if full room l t then bad 5 otherwise good (put l place numbers bits t)
 
 -- 3
 unfoldable pub ordered : Counts → Letter → Next → Night → Values → LineCame
@@ -91,7 +91,7 @@ ordered room l (To place) t v = filled room l place t v
 
 -- 2
 unfoldable pub read_letter : Counts → Night → Letter → Values → LineCame
-read_letter room t l v = if is l Other then bad 2 else ordered room l (next_place l t.place) t v
+read_letter room t l v = if is l Other then bad 2 otherwise ordered room l (next_place l t.place) t v
 
 unfoldable pub read_line : Counts → Night → List ℕ → LineCame
 read_line room t line = read_letter room t (line_letter line) (says (line_letter line) line)

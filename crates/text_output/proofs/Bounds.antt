@@ -10,7 +10,7 @@ use lib.Dec.{eqb}
 use lib.Ieee.{Float}
 use lib.ListN.{get_or, length, length-append, length-take, get_or-eq_default, take}
 use lib.Seq.{get_or-take}
-use Rattle.base_words.specs.Choice.{if◌then◌else◌}
+use Rattle.base_words.specs.Choice.{if◌then◌otherwise◌}
 use Rattle.base_places.specs.Places.{answer_width, body_width, floats_width, step_width}
 use Rattle.base_places.specs.Lengths.{longest_output, program_bodies, program_contacts, program_steps}
 use Rattle.base_rows.specs.Rows.{rows}
@@ -79,7 +79,7 @@ written_fits : (t : Night) → WholeRows t → (done : Bool) → eqb (called t).
     (if done
     then lines (called t).done (called t).refused (take ((called t).done * answer_width) (called t).room)
     (prints (called t).tables.bodies t.bodies) t.numbers (prints (called t).tables.floats t.floats)
-    else r_line (called t).refusal)
+    otherwise r_line (called t).refusal)
     ≤ longest_output
 written_fits t h true e =
     lines_fit _ _ _ _ t.numbers _ (omega (arith, few_done t (eqb-true _ _ e), h.steps, h.few_steps)) (few_called t).refused

@@ -1,6 +1,6 @@
 -- Document 01, "Text form": what is written of a night that was read. Assumes nothing.
 use Rattle.std.specs.Prelude.{ℕ, ◌*◌, List, [], ◌∷◌, ◌++◌, map, eqb, Float, replicate, take}
-use Rattle.base_words.specs.Choice.{if◌then◌else◌}
+use Rattle.base_words.specs.Choice.{if◌then◌otherwise◌}
 use Rattle.base_places.specs.Places.{answer_width, step_width}
 use Rattle.base_places.specs.Lengths.{program_steps}
 use Rattle.base_rows.specs.Rows.{rows}
@@ -45,7 +45,7 @@ written t e =
     if eqb e.refusal 0
     then lines e.done e.refused (take (e.done * answer_width) e.room) (prints e.tables.bodies t.bodies) t.numbers
     (prints e.tables.floats t.floats)
-    else r_line e.refusal
+    otherwise r_line e.refusal
 
 unfoldable pub answer : Night → List ℕ
 answer t = written t (called t)

@@ -6,7 +6,7 @@ use mathlib.Core.List.{List, [], ◌∷◌, ◌++◌}
 use mathlib.Core.Path.{◌≡◌, refl, sym, ◌∙◌, ap}
 use lib.Dec.{eqb, ltb}
 use lib.ListN.{length}
-use Rattle.base_words.specs.Choice.{if◌then◌else◌}
+use Rattle.base_words.specs.Choice.{if◌then◌otherwise◌}
 use Rattle.base_places.specs.Lengths.{largest, most_in_line}
 use Rattle.text_fields.specs.declared.Counts.{Counts}
 use Rattle.text_line.specs.Night.{Night}
@@ -34,8 +34,8 @@ line_capped n t (bad reason) = rw (twice n)
 
 module _ (room : Counts) where
   feed_by : (line : List ℕ) (n : ℕ) (t : Night) (b : ℕ) (ends fits : Bool)
-      → capped (if ends then line_ended (min n largest) t (read_line room t line) else if fits then reading (line ++ (b ∷ [])) (min n largest) t else refused (min n largest) 1 t)
-      ≡ capped (if ends then line_ended n t (read_line room t line) else if fits then reading (line ++ (b ∷ [])) n t else refused n 1 t)
+      → capped (if ends then line_ended (min n largest) t (read_line room t line) otherwise if fits then reading (line ++ (b ∷ [])) (min n largest) t otherwise refused (min n largest) 1 t)
+      ≡ capped (if ends then line_ended n t (read_line room t line) otherwise if fits then reading (line ++ (b ∷ [])) n t otherwise refused n 1 t)
   unfolding capped
   feed_by line n t b true fits = line_capped n t (read_line room t line)
   feed_by line n t b false true = capped_twice (reading (line ++ (b ∷ [])) n t)
@@ -53,8 +53,8 @@ module _ (room : Counts) where
       sym (feeds_capped (feed room (capped x) b) s) ∙ ap (λ y. capped (feeds room y s)) (feed_capped x b) ∙ feeds_capped (feed room x b) s
 
   last_by : (line : List ℕ) (n : ℕ) (t : Night) (empty : Bool)
-      → capped (if empty then reading [] (min n largest) t else line_ended (min n largest) t (read_line room t line))
-      ≡ capped (if empty then reading [] n t else line_ended n t (read_line room t line))
+      → capped (if empty then reading [] (min n largest) t otherwise line_ended (min n largest) t (read_line room t line))
+      ≡ capped (if empty then reading [] n t otherwise line_ended n t (read_line room t line))
   unfolding capped
   last_by line n t true = capped_twice (reading [] n t)
   last_by line n t false = line_capped n t (read_line room t line)
@@ -65,7 +65,7 @@ module _ (room : Counts) where
   last_capped (refused n reason t) = rw (twice n)
 
 whole_by : (line : List ℕ) (n : ℕ) (t : Night) (cut : Bool)
-    → capped (if cut then refused n 3 t else reading line n t) ≡ (if cut then refused (min n largest) 3 t else reading line (min n largest) t)
+    → capped (if cut then refused n 3 t otherwise reading line n t) ≡ (if cut then refused (min n largest) 3 t otherwise reading line (min n largest) t)
 unfolding capped
 whole_by line n t true = refl
 whole_by line n t false = refl

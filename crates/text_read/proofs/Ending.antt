@@ -7,7 +7,7 @@ use mathlib.Core.List.{List, []}
 use mathlib.Core.Path.{◌≡◌, refl, sym, ◌∙◌, ap}
 use lib.ListN.{length, take}
 use lib.Seq.{length-take-le}
-use Rattle.base_words.specs.Choice.{if◌then◌else◌}
+use Rattle.base_words.specs.Choice.{if◌then◌otherwise◌}
 use Rattle.base_words.proofs.Pick.{never, pass, take as pick}
 use Rattle.base_places.specs.Lengths.{largest, most_in_line}
 use Rattle.text_fields.specs.declared.Counts.{Counts}
@@ -78,12 +78,12 @@ module _ (k : Reader) (line : List ℕ) (w : Cells) (v : Sound k w) (long : leng
 
 -- a reader that is closed carries what the end of a text says
 closing_cut : (held : List ℕ) (n : ℕ) (t : Night) (cut : Bool)
-    → text_by (if cut then Bad 3 else Fine) held n t ≡ (if cut then refused n 3 t else reading held n t)
+    → text_by (if cut then Bad 3 otherwise Fine) held n t ≡ (if cut then refused n 3 t otherwise reading held n t)
 closing_cut held n t true = refl
 closing_cut held n t false = refl
 
 closing_by : (c : Came) (held : List ℕ) (n : ℕ) (t : Night)
-    → text_by (if (if is_bad c then false else in_contact t.place) then Bad 3 else c) held n t ≡ whole_contacts (text_by c held n t)
+    → text_by (if (if is_bad c then false otherwise in_contact t.place) then Bad 3 otherwise c) held n t ≡ whole_contacts (text_by c held n t)
 unfolding whole_contacts
 closing_by Fine held n t = closing_cut held n t (in_contact t.place)
 closing_by (Bad reason) held n t = refl

@@ -8,7 +8,7 @@ use mathlib.Core.Path.{◌≡◌, refl, ◌∙◌, ap}
 use lib.Dec.{eqb, ltb}
 use lib.ListN.{drop, length, length-append, take}
 use lib.Seq.{drop-drop}
-use Rattle.base_words.specs.Choice.{if◌then◌else◌}
+use Rattle.base_words.specs.Choice.{if◌then◌otherwise◌}
 use Rattle.base_places.specs.Lengths.{most_in_line}
 use Rattle.text_fields.specs.Fields.{Nothing, Says, Values}
 use Rattle.text_fields.specs.Letters.{adds, line_letter, says}
@@ -62,7 +62,7 @@ after t (good t') = t'
 after t (bad reason) = t
 
 filled_by : (l : Letter) (place : Place) (t : Night) (numbers bits : List ℕ) (none : Bool)
-    → Grows t (after t (if none then bad 5 else good (put l place numbers bits t)))
+    → Grows t (after t (if none then bad 5 otherwise good (put l place numbers bits t)))
 filled_by l place t numbers bits true = same t
 filled_by l place t numbers bits false = put_grows l place numbers bits t
 
@@ -77,7 +77,7 @@ module _ (room : Counts) (t : Night) where
   ordered_grows l OutOfOrder v = same t
   ordered_grows l (To place) v = filled_grows l place v
 
-  letter_by : (l : Letter) (next : Next) (v : Values) (other : Bool) → Grows t (after t (if other then bad 2 else ordered room l next t v))
+  letter_by : (l : Letter) (next : Next) (v : Values) (other : Bool) → Grows t (after t (if other then bad 2 otherwise ordered room l next t v))
   letter_by l next v true = same t
   letter_by l next v false = ordered_grows l next v
 
@@ -97,7 +97,7 @@ module _ (room : Counts) where
 
   -- a byte
   feed_by : (line : List ℕ) (n : ℕ) (t : Night) (b : ℕ) (ends fits : Bool)
-      → Grows t (said (if ends then line_ended n t (read_line room t line) else if fits then reading (line ++ (b ∷ [])) n t else refused n 1 t))
+      → Grows t (said (if ends then line_ended n t (read_line room t line) otherwise if fits then reading (line ++ (b ∷ [])) n t otherwise refused n 1 t))
   unfolding said
   feed_by line n t b true fits = read_grows n t line
   feed_by line n t b false true = same t
@@ -116,12 +116,12 @@ module _ (room : Counts) where
 
   -- the end
   last_by : (line : List ℕ) (n : ℕ) (t : Night) (none : Bool)
-      → Grows t (said (if none then reading [] n t else line_ended n t (read_line room t line)))
+      → Grows t (said (if none then reading [] n t otherwise line_ended n t (read_line room t line)))
   unfolding said
   last_by line n t true = same t
   last_by line n t false = read_grows n t line
 
-  whole_by : (line : List ℕ) (n : ℕ) (t : Night) (cut : Bool) → said (if cut then refused n 3 t else reading line n t) ≡ t
+  whole_by : (line : List ℕ) (n : ℕ) (t : Night) (cut : Bool) → said (if cut then refused n 3 t otherwise reading line n t) ≡ t
   unfolding said
   whole_by line n t true = refl
   whole_by line n t false = refl
@@ -134,7 +134,7 @@ module _ (room : Counts) where
   closed_grows : (x : Text) → Grows (said x) (said (closed room x))
   unfolding said closed
   closed_grows (reading line n t) =
-      rw (whole_said (if eqb (length line) 0 then reading [] n t else line_ended n t (read_line room t line))) (last_by line n t (eqb (length line) 0))
+      rw (whole_said (if eqb (length line) 0 then reading [] n t otherwise line_ended n t (read_line room t line))) (last_by line n t (eqb (length line) 0))
   closed_grows (refused n reason t) = same t
 
   -- the same of a reading, whatever is taken of it, so that a wrong `taken` or `ended` fails where it is wrong

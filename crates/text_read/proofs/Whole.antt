@@ -7,7 +7,7 @@ use mathlib.Core.Path.{◌≡◌, refl, ◌∙◌, ap}
 use lib.Dec.{eqb}
 use lib.ListN.{length, take}
 use lib.Seq.{take-nil}
-use Rattle.base_words.specs.Choice.{if◌then◌else◌}
+use Rattle.base_words.specs.Choice.{if◌then◌otherwise◌}
 use Rattle.base_places.specs.Lengths.{largest}
 use Rattle.text_fields.specs.declared.Counts.{Counts}
 use Rattle.text_line.specs.Night.{Night}
@@ -37,8 +37,8 @@ line_empty n t (good t') = refl
 line_empty n t (bad reason) = refl
 
 last_by : (room : Counts) (line : List ℕ) (n : ℕ) (t : Night) (none : Bool)
-    → emptied (if none then reading [] n t else line_ended n t (read_line room t line))
-    ≡ (if none then reading [] n t else line_ended n t (read_line room t line))
+    → emptied (if none then reading [] n t otherwise line_ended n t (read_line room t line))
+    ≡ (if none then reading [] n t otherwise line_ended n t (read_line room t line))
 last_by room line n t true = refl
 last_by room line n t false = line_empty n t (read_line room t line)
 
@@ -48,7 +48,7 @@ last_empty room (reading line n t) = last_by room line n t (eqb (length line) 0)
 last_empty room (refused n reason t) = refl
 
 whole_by : (line : List ℕ) (n : ℕ) (t : Night) (cut : Bool)
-    → emptied (if cut then refused n 3 t else reading line n t) ≡ (if cut then refused n 3 t else reading [] n t)
+    → emptied (if cut then refused n 3 t otherwise reading line n t) ≡ (if cut then refused n 3 t otherwise reading [] n t)
 whole_by line n t true = refl
 whole_by line n t false = refl
 

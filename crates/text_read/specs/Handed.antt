@@ -1,6 +1,6 @@
 -- What the functions of this crate hand to each other. Assumes nothing.
 use Rattle.std.specs.Prelude.{ℕ, ◌-◌, ◌≤◌, ◌<◌, min, Bool, true, false, List, [], ◌≡◌, eqb, drop, length, take}
-use Rattle.base_words.specs.Choice.{if◌then◌else◌}
+use Rattle.base_words.specs.Choice.{if◌then◌otherwise◌}
 use Rattle.base_places.specs.Lengths.{most_in_line, one_more}
 use Rattle.text_fields.specs.declared.Counts.{Counts}
 use Rattle.text_line.specs.Lines.{in_contact, read_line}
@@ -32,10 +32,10 @@ after_line k (BadLine reason) = refused_for k reason
 
 -- after the last line: a contact may be cut short
 abbrev pub cut_short : Reader → Bool
-cut_short k = if is_bad k.came then false else in_contact k.st.place
+cut_short k = if is_bad k.came then false otherwise in_contact k.st.place
 
 abbrev pub closed_reader : Reader → Reader
-closed_reader k = record { over = true; came = if cut_short k then Bad 3 else k.came; number = k.number; st = k.st; len = k.len }
+closed_reader k = record { over = true; came = if cut_short k then Bad 3 otherwise k.came; number = k.number; st = k.st; len = k.len }
 
 -- the bytes s were fed to a reader whose text is not refused; where it still is not, it can be fed more
 pub record Fed (k : Reader) (line : List ℕ) (w : Cells) (s : List ℕ) (k' : Reader) (line' : List ℕ) (w' : Cells) : Type 0 where
@@ -52,7 +52,7 @@ pub record Turned (k : Reader) (line : List ℕ) (w : Cells) (s : List ℕ) (i :
 
 -- the end of a text, but for a contact that is cut short
 unfoldable pub last_line : Counts → Text → Text
-last_line room (reading line n t) = if eqb (length line) 0 then reading [] n t else line_ended n t (read_line room t line)
+last_line room (reading line n t) = if eqb (length line) 0 then reading [] n t otherwise line_ended n t (read_line room t line)
 last_line room (refused n reason t) = refused n reason t
 
 -- the line that has not ended was read, if there is any of it

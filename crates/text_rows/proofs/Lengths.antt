@@ -6,7 +6,7 @@ use mathlib.Core.Bool.{Bool, true, false}
 use mathlib.Core.List.{List, []}
 use lib.Dec.{ltb}
 use lib.ListN.{drop, get_or, length, length-drop, length-take, get_or-eq_default}
-use Rattle.base_words.specs.Choice.{if◌then◌else◌}
+use Rattle.base_words.specs.Choice.{if◌then◌otherwise◌}
 use Rattle.base_places.specs.Places.{answer_width, body_width, floats_width}
 use Rattle.base_places.specs.Lengths.{line_bytes}
 use Rattle.base_rows.specs.Rows.{part, row, rows}
@@ -54,7 +54,7 @@ module _ (numbers bits : List ℕ) where
   unfolding listing point_line i_line
   loads_length few = each_length (point_line numbers bits) (line_bytes 2 2) (rows floats_width bits * 2) one
     where
-      side : (j : ℕ) (t : Bool) → j / 2 < 65536 → length (if t then i_line bits (j / 2) (j % 2) else []) ≤ line_bytes 2 2
+      side : (j : ℕ) (t : Bool) → j / 2 < 65536 → length (if t then i_line bits (j / 2) (j % 2) otherwise []) ≤ line_bytes 2 2
       side j true h = short_line 73 _ _ (two_small (j / 2) (j % 2) h (omega arith))
       side j false h = omega arith
 

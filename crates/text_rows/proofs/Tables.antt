@@ -7,7 +7,7 @@ use mathlib.Core.List.{List, [], ◌∷◌}
 use borrow.Author.Tests.{eqb-true, le-ltb, lt-ltb, ne_eqb}
 use lib.Dec.{eqb}
 use lib.ListN.{drop, get_or, length, length-drop, length-take, get_or-eq_default, take}
-use Rattle.base_words.specs.Choice.{if◌then◌else◌}
+use Rattle.base_words.specs.Choice.{if◌then◌otherwise◌}
 use Rattle.base_words.proofs.Pick as pick
 use Rattle.base_places.specs.Places.{answer_width, body_width, floats_width, numbers_width, place, point_place}
 use Rattle.base_places.specs.declared.Cell.TheVariants.{NormalImpulse, TangentImpulse}

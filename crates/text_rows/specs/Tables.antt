@@ -2,7 +2,7 @@
 -- all B, then I (contact point normal-impulse tangent-impulse) for points below count where count is 1 or 2, then E (done refused)."
 -- Assumes nothing.
 use Rattle.std.specs.Prelude.{ℕ, ◌+◌, ◌*◌, ◌/◌, ◌%◌, ◌||◌, List, [], ◌∷◌, map, eqb, ltb, get_or}
-use Rattle.base_words.specs.Choice.{if◌then◌else◌}
+use Rattle.base_words.specs.Choice.{if◌then◌otherwise◌}
 use Rattle.base_places.specs.Places.{answer_width, body_width, floats_width, numbers_width, place, point_place}
 use Rattle.base_places.specs.declared.Cell.{Cell}
 use Rattle.base_places.specs.declared.Cell.TheVariants.{NormalImpulse, TangentImpulse}
@@ -29,11 +29,11 @@ i_line floats k p = line 73 (k ∷ p ∷ []) (map (λ c. get_or (row floats_widt
 
 -- "for points below count where count is 1 or 2"
 unfoldable pub points_of : List ℕ → ℕ → ℕ
-points_of numbers k = let count = get_or (row numbers_width k numbers) 2 0 in if eqb count 1 || eqb count 2 then count else 0
+points_of numbers k = let count = get_or (row numbers_width k numbers) 2 0 in if eqb count 1 || eqb count 2 then count otherwise 0
 
 -- point j of all, two to a contact
 unfoldable pub point_line : List ℕ → List ℕ → ℕ → List ℕ
-point_line numbers floats j = if ltb (j % 2) (points_of numbers (j / 2)) then i_line floats (j / 2) (j % 2) else []
+point_line numbers floats j = if ltb (j % 2) (points_of numbers (j / 2)) then i_line floats (j / 2) (j % 2) otherwise []
 
 -- what is listed, from numbers and bits: answers, bodies, or points. How many rows there are, and the line of row i, if it has one
 abbrev pub rows_of : Listed → List ℕ → List ℕ → ℕ

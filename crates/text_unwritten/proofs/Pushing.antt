@@ -10,7 +10,7 @@ use lib.Ieee.{Float, nan, inf, fin, binary32, fits, is_nan, le, lt, eq, of_bits,
 use lib.Ieee.Bits.{of_bits-fits, of_bits-to_bits}
 use lib.Ieee.Fits.{nan-fits}
 use lib.ListN.{get_or, length, length-map}
-use Rattle.base_words.specs.Choice.{if◌then◌else◌}
+use Rattle.base_words.specs.Choice.{if◌then◌otherwise◌}
 use Rattle.base_words.proofs.Pick.{never}
 use Rattle.base_places.specs.Places.{floats_width, numbers_width, place, point_place, step_width}
 use Rattle.base_places.proofs.Fits.{cell_fits}
@@ -133,7 +133,7 @@ module _ (s line : List ℕ) (n : ℕ) (t : Night) (e : text_of of_program s ≡
       count : ℕ
       count = get_or (row numbers_width k t.numbers) 2 0
 
-      by_count : (b : Bool) → p < (if b then count else 0) → p < count
+      by_count : (b : Bool) → p < (if b then count otherwise 0) → p < count
       by_count true h = h
       by_count false h = absurd (omega arith)
 

@@ -1,5 +1,4 @@
 -- `text_digits::dec_digits` meets its contract. What is left to read comes to the same at each turn. Assumes nothing.
-use Prim.Native.Nat.{◌-◌}
 use borrow.Author.Rules.{rules}
 use Rattle.text_digits.proofs.Turn.{no_digit, over, too_large, turn}
 use Rattle.text_digits.proofs.dec_digits.Goals as goal
