@@ -35,17 +35,17 @@ module _ (lent : Lent) (budget : ℕ) (e : Ended) (so : Demand2 lent budget e) w
     abbrev s : Step
     s = step_at lent.steps i
 
-    abbrev headAt : Tables → ContactHead
-    headAt t = (contact_at t.numbers t.floats s.contact).head
+    abbrev head_at : Tables → ContactHead
+    head_at t = (contact_at t.numbers t.floats s.contact).head
 
     there : i < rows step_width lent.steps
     there = in_list lent budget e so i among
 
-    same_head : headAt (before lent i) ≡ headAt lent.tables
+    same_head : head_at (before lent i) ≡ head_at lent.tables
     same_head =
-        kept_before (λ (t : Tables). headAt t ≡ headAt lent.tables) (λ s' t so_far. (step_changed s' t s.contact).head ∙ so_far) lent i (omega (arith, there)) refl
+        kept_before (λ (t : Tables). head_at t ≡ head_at lent.tables) (λ s' t so_far. (step_changed s' t s.contact).head ∙ so_far) lent i (omega (arith, there)) refl
 
-    where_done : number x < (headAt lent.tables).count → AtLeast0 (load_at s.contact x e.tables)
+    where_done : number x < (head_at lent.tables).count → AtLeast0 (load_at s.contact x e.tables)
     where_done below =
         let in_use : number x < (its_contact s (before lent i)).head.count = rw (its_contact_lem s (before lent i), same_head) below in
         kept_since (λ (t : Tables). AtLeast0 (load_at s.contact x t)) (λ s' t. carried AtLeast0 (λ n h. h) ((step_changed s' t s.contact).loads x))

@@ -19,7 +19,7 @@ use Rattle.step_contact.specs.declared.ContactPoint.{ContactPoint}
 use Rattle.step_contact.proofs.Zeros.{zero_count}
 use Rattle.step_kinds.specs.Table.{stores}
 use Rattle.step_kinds.specs.Stored.{stored, stored_in}
-use Rattle.step_kinds.proofs.Stored.{no_points, pointStored, stored_points}
+use Rattle.step_kinds.proofs.Stored.{no_points, point_stored, stored_points}
 use Rattle.base_rows.specs.Rows.{part, rows}
 use Rattle.base_rows.proofs.Parts.{length_part}
 use Rattle.list_tables.specs.Tables.{contact_of, point_of, vel_at, vel_of}
@@ -69,7 +69,7 @@ module _ (numbers : List ℕ) (kind : ℕ) (new : Contact) (l : List Float) (lon
   old = contact_of numbers l
 
   -- point a, with what the new contact stores there ..
-  back_a : point_of (part (point_place 0) point_width (put_contact kind new l)) ≡ pointStored (stores kind) old new 0 old.a new.a
+  back_a : point_of (part (point_place 0) point_width (put_contact kind new l)) ≡ point_stored (stores kind) old new 0 old.a new.a
   unfolding put_point
   back_a =
       ap point_of (a_written kind new l long)
@@ -77,7 +77,7 @@ module _ (numbers : List ℕ) (kind : ℕ) (new : Contact) (l : List Float) (lon
       ∙ rw (head, (its_points numbers l).0)
 
   -- .. and point b
-  back_b : point_of (part (point_place 1) point_width (put_contact kind new l)) ≡ pointStored (stores kind) old new 1 old.b new.b
+  back_b : point_of (part (point_place 1) point_width (put_contact kind new l)) ≡ point_stored (stores kind) old new 1 old.b new.b
   unfolding put_point
   back_b =
       ap point_of (b_written kind new l long)

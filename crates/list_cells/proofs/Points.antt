@@ -8,7 +8,7 @@ use lib.Ieee.{Float}
 use lib.ListN.{drop, length, take}
 use borrow.Rule.Slice.PartMut.{put_mid}
 use Rattle.base_places.proofs.Fits.{cell_fits}
-use Rattle.base_places.specs.Places.{head_width, place, point_place, point_width}
+use Rattle.base_places.specs.Places.{place, point_place, point_width}
 use Rattle.base_places.specs.declared.Cell.{Cell}
 use Rattle.base_places.specs.declared.Cell.TheVariants.{NormalImpulse, TangentImpulse}
 use Rattle.step_contact.specs.Cells.{in_cell}

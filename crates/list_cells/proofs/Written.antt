@@ -100,8 +100,8 @@ module _ (kind : ℕ) (c : Contact) where
   put_a = put_point kind c.head 0 c.a
 
   -- .. and to those of b
-  abbrev pub putB : List Float → List Float
-  putB = put_point kind c.head 1 c.b
+  abbrev pub put_b : List Float → List Float
+  put_b = put_point kind c.head 1 c.b
 
 module _ (kind : ℕ) (c : Contact) (l : List Float) (long : length l ≡ floats_width) where
   -- a is written first
@@ -125,34 +125,34 @@ module _ (kind : ℕ) (c : Contact) (l : List Float) (long : length l ≡ floats
   fits_b = omega (arith, a_long)
 
   -- .. and stay as many
-  keeps_b : length (putB kind c (part (point_place 1) point_width with_a)) ≡ point_width
+  keeps_b : length (put_b kind c (part (point_place 1) point_width with_a)) ≡ point_width
   keeps_b = point_as_long kind c.head 1 c.b (part (point_place 1) point_width with_a) ∙ length_part (point_place 1) point_width with_a fits_b
 
   -- a contact has as many floats as it had
   pub contact_as_long : length (put_contact kind c l) ≡ floats_width
   unfolding put_contact
-  contact_as_long = length_on_part (point_place 1) point_width (putB kind c) with_a fits_b keeps_b ∙ a_long
+  contact_as_long = length_on_part (point_place 1) point_width (put_b kind c) with_a fits_b keeps_b ∙ a_long
 
   -- the head's floats stay
   pub head_stays : part 0 head_width (put_contact kind c l) ≡ part 0 head_width l
   unfolding put_contact
   head_stays =
-      part_other (point_place 1) point_width (putB kind c) with_a fits_b keeps_b nan 0 head_width (inl (lit≤ tt))
+      part_other (point_place 1) point_width (put_b kind c) with_a fits_b keeps_b nan 0 head_width (inl (lit≤ tt))
       ∙ part_other (point_place 0) point_width (put_a kind c) l fits_a keeps_a nan 0 head_width (inl (lit≤ tt))
 
   -- a's are written ..
   pub a_written : part (point_place 0) point_width (put_contact kind c l) ≡ put_a kind c (part (point_place 0) point_width l)
   unfolding put_contact
   a_written =
-      part_other (point_place 1) point_width (putB kind c) with_a fits_b keeps_b nan (point_place 0) point_width (inl (lit≤ tt))
+      part_other (point_place 1) point_width (put_b kind c) with_a fits_b keeps_b nan (point_place 0) point_width (inl (lit≤ tt))
       ∙ part_itself (point_place 0) point_width (put_a kind c) l fits_a keeps_a
 
   -- .. and b's
-  pub b_written : part (point_place 1) point_width (put_contact kind c l) ≡ putB kind c (part (point_place 1) point_width l)
+  pub b_written : part (point_place 1) point_width (put_contact kind c l) ≡ put_b kind c (part (point_place 1) point_width l)
   unfolding put_contact
   b_written =
-      part_itself (point_place 1) point_width (putB kind c) with_a fits_b keeps_b
-      ∙ ap (putB kind c) (part_other (point_place 0) point_width (put_a kind c) l fits_a keeps_a nan (point_place 1) point_width (inr (lit≤ tt)))
+      part_itself (point_place 1) point_width (put_b kind c) with_a fits_b keeps_b
+      ∙ ap (put_b kind c) (part_other (point_place 0) point_width (put_a kind c) l fits_a keeps_a nan (point_place 1) point_width (inr (lit≤ tt)))
 
 module _ (floats : List Float) (k kind : ℕ) (c : Contact) where
   -- a contact's row of floats is what was written

@@ -46,22 +46,22 @@ module _ (number : Step → ℕ) (steps : List ℕ) where
         by_case (no p) q = rw (above x (omega (arith, p)), above (max x y) (omega (arith, p)))
 
     -- one of the first n steps has such a number
-    abbrev someOf : ℕ → Bool
-    someOf n = any (λ s. test (number s)) (first_steps steps n)
+    abbrev some_of : ℕ → Bool
+    some_of n = any (λ s. test (number s)) (first_steps steps n)
 
-    more : (n : ℕ) → n < rows step_width steps → someOf (suc n) ≡ (someOf n || test (number (step_at steps n)))
+    more : (n : ℕ) → n < rows step_width steps → some_of (suc n) ≡ (some_of n || test (number (step_at steps n)))
     more n within = ap (any (λ s. test (number s))) (first_more steps n within) ∙ any_snoc (λ s. test (number s)) (first_steps steps n) (step_at steps n)
 
-    none_yet : someOf 0 ≡ false
+    none_yet : some_of 0 ≡ false
     none_yet = ap (any (λ s. test (number s))) (first_none steps) ∙ any_none (λ s. test (number s))
 
-    up_to : (n : ℕ) → n < rows step_width steps → someOf (suc n) ≡ test (largest_of number steps (suc n))
+    up_to : (n : ℕ) → n < rows step_width steps → some_of (suc n) ≡ test (largest_of number steps (suc n))
     unfolding largest_of
     up_to zero within = more 0 within ∙ rw (none_yet, zero-max)
     up_to (suc n) within = more (suc n) within ∙ rw (up_to n (omega arith)) (either (largest_of number steps (suc n)) (number (step_at steps (suc n))))
 
     -- .. where there is a step, and the largest passes
-    pub some_pass : (n : ℕ) → n ≤ rows step_width steps → (ltb 0 n && test (largest_of number steps n)) ≡ someOf n
+    pub some_pass : (n : ℕ) → n ≤ rows step_width steps → (ltb 0 n && test (largest_of number steps n)) ≡ some_of n
     some_pass zero within = sym none_yet
     some_pass (suc n) within = rw (lt-ltb 0 (suc n) (omega arith)) (sym (up_to n within))
 

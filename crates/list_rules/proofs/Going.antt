@@ -17,9 +17,9 @@ use Rattle.list_cells.specs.Cells.{put_answer}
 use Rattle.list_cells.specs.declared.Answer.{Answer}
 use Rattle.list_tables.specs.declared.Step.{Step}
 use Rattle.base_order.specs.OneByOne.{answers, finish}
-use Rattle.base_order.proofs.Snoc.{answers_none, answers_snoc, count_le, count_none, count_snoc, finish_none, finish_snoc, length_answers, one_at_most}
+use Rattle.base_order.proofs.Snoc.{answers_snoc, count_le, count_snoc, finish_snoc, length_answers}
 use Rattle.list_rules.specs.Whole.{StopsAtEnd}
-use Rattle.list_rules.specs.Sweep.{Swept, Tables, first_steps, is_refused, laid, step_on, sweep, swept, tables}
+use Rattle.list_rules.specs.Sweep.{Tables, first_steps, is_refused, laid, step_on, sweep, swept}
 
 -- the list's first steps, one more at a time, as long as there is one
 pub first_none : (steps : List ℕ) → first_steps steps 0 ≡ []

@@ -8,17 +8,13 @@ use lib.Dec.{ltb}
 use lib.Ieee.{Float}
 use Rattle.base_places.specs.Places.{body_width, floats_width}
 use Rattle.base_words.specs.Choice.{if◌then◌else◌}
-use Rattle.elem_velocity.specs.declared.Vels.{Vels}
-use Rattle.step_contact.specs.declared.Contact.{Contact}
 use Rattle.step_contact.specs.declared.ContactHead.{ContactHead}
 use Rattle.step_kinds.specs.declared.ContactSolved.{ContactSolved}
 use Rattle.step_rules.specs.Step.{answer, step}
 use Rattle.step_rules.specs.declared.Outcome.{Outcome}
 use Rattle.step_rules.specs.declared.Outcome.TheVariants.{Refused, Done}
 use Rattle.base_rows.specs.Rows.{rows}
-use Rattle.list_tables.specs.Tables.{contact_at}
 use Rattle.list_cells.specs.Cells.{put_impulses, put_vel}
-use Rattle.list_cells.specs.declared.Answer.{Answer}
 use Rattle.list_tables.specs.declared.Step.{Step}
 use Rattle.list_rules.specs.Sweep.{Tables, answered, its_contact, if_there, new_bodies, new_floats, outcome, step_on, tables, vels_at}
 

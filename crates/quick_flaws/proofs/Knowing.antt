@@ -24,8 +24,8 @@ flipped : (n m : ℕ) → eqb n m ≡ false → eqb m n ≡ false
 flipped n m e = ne_eqb m n (λ same. eqb-false n m e (sym same))
 
 module _ (c : Contact) (kind : ℕ) (v : Vels) (rows : ℕ) where
-  abbrev flawOf : List Check → ℕ
-  flawOf ks = first (of_contact ks c rows)
+  abbrev flaw_of : List Check → ℕ
+  flaw_of ks = first (of_contact ks c rows)
 
   -- the flaw is not a number that does not stand in the list
   module _ (n m : ℕ) (cs : List Condition) (other : eqb n m ≡ false) (later : eqb (first cs) n ≡ false) where
@@ -40,7 +40,7 @@ module _ (c : Contact) (kind : ℕ) (v : Vels) (rows : ℕ) where
     by_looks (at_step g) = later
     by_looks (at_both f g) = by_half (f c rows)
 
-  elsewhere : (n : ℕ) (ks : List Check) → eqb n 0 ≡ false → stands n (asked ks c kind v rows) ≡ false → eqb (flawOf ks) n ≡ false
+  elsewhere : (n : ℕ) (ks : List Check) → eqb n 0 ≡ false → stands n (asked ks c kind v rows) ≡ false → eqb (flaw_of ks) n ≡ false
   unfolding first of_contact asked stands
   elsewhere n [] some none = flipped n 0 some
   elsewhere n (k ∷ ks) some none =
@@ -48,15 +48,15 @@ module _ (c : Contact) (kind : ℕ) (v : Vels) (rows : ℕ) where
       (elsewhere n ks some (none_r (eqb n k.number) (stands n (asked ks c kind v rows)) none)) k.looks
 
   -- one check, where the flaw of the later ones is not its number and they come to the same
-  module _ (n : ℕ) (ks : List Check) (made : ContactSolved) (other : eqb (flawOf ks) n ≡ false)
-      (later : first_or (asked_knowing (flawOf ks) ks c kind v) made ≡ first_or (asked ks c kind v rows) made) where
+  module _ (n : ℕ) (ks : List Check) (made : ContactSolved) (other : eqb (flaw_of ks) n ≡ false)
+      (later : first_or (asked_knowing (flaw_of ks) ks c kind v) made ≡ first_or (asked ks c kind v rows) made) where
     abbrev after : Bool → ℕ
     after b = first (n when b ∷ of_contact ks c rows)
 
     own : eqb n n ≡ true
     own = eq-eqb n n refl
 
-    go_on : (d : Bool) → (if d then Refused n else first_or (asked_knowing (flawOf ks) ks c kind v) made) ≡ (if d then Refused n else first_or (asked ks c kind v rows) made)
+    go_on : (d : Bool) → (if d then Refused n else first_or (asked_knowing (flaw_of ks) ks c kind v) made) ≡ (if d then Refused n else first_or (asked ks c kind v rows) made)
     go_on d = ap (λ (o : Outcome). if d then Refused n else o) later
 
     of_contact_lem : (b : Bool) → first_or (n when eqb (after b) n ∷ asked_knowing (after b) ks c kind v) made ≡ first_or (n when b ∷ asked ks c kind v rows) made
@@ -70,14 +70,14 @@ module _ (c : Contact) (kind : ℕ) (v : Vels) (rows : ℕ) where
     of_both true d = rw own
     of_both false d = rw other (go_on d)
 
-    by_check : (l : Looks) → first_or (asked_knowing (flawOf (n looks l ∷ ks)) (n looks l ∷ ks) c kind v) made ≡ first_or (asked (n looks l ∷ ks) c kind v rows) made
+    by_check : (l : Looks) → first_or (asked_knowing (flaw_of (n looks l ∷ ks)) (n looks l ∷ ks) c kind v) made ≡ first_or (asked (n looks l ∷ ks) c kind v rows) made
     unfolding first first_or of_contact half_at asked_knowing holds_knowing asked holds_of
     by_check (at_contact f) = of_contact_lem (f c rows)
     by_check (at_step g) = go_on (g c kind v)
     by_check (at_both f g) = of_both (f c rows) (g c kind v)
 
   knowing : (ks : List Check) (made : ContactSolved) → distinct (asked ks c kind v rows) ≡ true
-      → first_or (asked_knowing (flawOf ks) ks c kind v) made ≡ first_or (asked ks c kind v rows) made
+      → first_or (asked_knowing (flaw_of ks) ks c kind v) made ≡ first_or (asked ks c kind v rows) made
   unfolding asked_knowing asked
   knowing [] made numbers = refl
   knowing (k ∷ ks) made numbers =

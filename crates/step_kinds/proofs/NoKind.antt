@@ -7,7 +7,6 @@ use Rattle.base_places.specs.declared.Cell.{Cell}
 use Rattle.elem_velocity.specs.declared.Vels.{Vels}
 use Rattle.step_contact.specs.declared.Contact.{Contact}
 use Rattle.step_kinds.specs.Table.{Kind, kind_of, kinds, no_kind, points_for, routine, stores}
-use Rattle.step_kinds.specs.declared.ContactSolved.{ContactSolved}
 
 module _ (k : ℕ) (past : length kinds ≤ k) where
   no_kind_lem : no_kind ≡ kind_of k

@@ -10,8 +10,6 @@ use Rattle.base_words.proofs.Pick.{never}
 use Rattle.base_places.specs.Places.{cells}
 use Rattle.base_places.specs.declared.Cell.{Cell}
 use Rattle.base_places.specs.declared.Cell.TheVariants.{NormalImpulse, TangentImpulse}
-use Rattle.elem_tangent.specs.Tangent.{tangent_with}
-use Rattle.elem_normal.specs.Normal.{normal_with}
 use Rattle.step_contact.specs.Cells.{in_cell, with_cell}
 use Rattle.step_contact.specs.declared.Contact.{Contact}
 use Rattle.step_contact.specs.declared.ContactPoint.{ContactPoint}
@@ -26,11 +24,11 @@ stored_below false which p q = refl
 
 module _ (which : Cell → Bool) (c d : Contact) where
   -- what is stored at the point p of a place, from the point q
-  abbrev pub pointStored : ℕ → ContactPoint → ContactPoint → ContactPoint
-  pointStored place p q = stored_at (λ x. ltb place c.head.count && which x) p q
+  abbrev pub point_stored : ℕ → ContactPoint → ContactPoint → ContactPoint
+  point_stored place p q = stored_at (λ x. ltb place c.head.count && which x) p q
 
   -- the head stays, and each point is stored to at its place
-  pub stored_points : stored which c d ≡ record { head = c.head; a = pointStored 0 c.a d.a; b = pointStored 1 c.b d.b }
+  pub stored_points : stored which c d ≡ record { head = c.head; a = point_stored 0 c.a d.a; b = point_stored 1 c.b d.b }
   unfolding stored
   stored_points =
       rw (stored_below (ltb 0 c.head.count) which c.a d.a, stored_below (ltb 1 c.head.count) which c.b d.b)

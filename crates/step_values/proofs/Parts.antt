@@ -13,7 +13,6 @@ use Rattle.step_contact.specs.Cells.{in_cell}
 use Rattle.step_kinds.specs.Table.{stores}
 use Rattle.elem_velocity.specs.declared.SolverVel.{SolverVel}
 use Rattle.elem_velocity.specs.declared.Vels.{Vels}
-use Rattle.step_contact.specs.Contact.{is_floor}
 use Rattle.step_contact.specs.declared.Contact.{Contact}
 use Rattle.step_contact.specs.declared.ContactPoint.{ContactPoint}
 use Rattle.step_kinds.specs.declared.ContactSolved.{ContactSolved}

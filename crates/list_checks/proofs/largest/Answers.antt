@@ -1,5 +1,4 @@
 -- `list_checks::largest` meets its contract. Both are the largest of the first i steps. Assumes nothing.
-use Prim.Native.Nat.{◌-◌}
 use native.Mathlib.Omega.{arith}
 use Rattle.list_checks.proofs.Some.{largest_more, largest_none}
 use Rattle.list_checks.proofs.largest.Goals as goal
