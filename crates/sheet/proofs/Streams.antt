@@ -51,6 +51,7 @@ all_answered (Some text) (Some rest) {k = k} {line = line} {w = w} {o = o} {o' =
   where
     carried : reading_in k line w ≡ capped_in (going (feeds of_program unread f.so_far))
     carried = rw f.fed.room at f.fed.carried
+
     by : (bad : Bool) → is_bad k.came ≡ bad → Answered f.so_far o o' n → take n o' ≡ output text
     by true e a = (answers_early f.so_far rest k line w o o' n carried e a).told ∙ ap output (sym f.took)
     by false e a = a.told ∙ ap output (sym (f.took ∙ ap (λ l. f.so_far ++ l) (stopped e) ∙ append-nil f.so_far))
