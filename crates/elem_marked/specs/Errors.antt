@@ -64,11 +64,11 @@ abbrev pub LinFirst : Type 0
 LinFirst = (pair_dvel lin levered turning ≡ neg tiny) × (dvel up (num 1) (num 0) (num 0) turning ≡ num 0)
 
 -- Skipping the push of a zero change would show: it turns a velocity of minus zero into plus zero
-abbrev pub minus_zero_lem : Vels
-minus_zero_lem = record { v1 = record { linear = vec (neg zero) (neg zero); angular = neg zero }; v2 = rest }
+abbrev pub minus_zero : Vels
+minus_zero = record { v1 = record { linear = vec (neg zero) (neg zero); angular = neg zero }; v2 = rest }
 
 abbrev pub pushed_by_zero : Vels
-pushed_by_zero = push up ones none (num 1) (num 1) zero minus_zero_lem
+pushed_by_zero = push up ones none (num 1) (num 1) zero minus_zero
 
 abbrev pub ZeroPush : Type 0
-ZeroPush = (to_bits binary32 minus_zero_lem.v1.linear.y ≡ 0x8000_0000) × (to_bits binary32 pushed_by_zero.v1.linear.y ≡ 0)
+ZeroPush = (to_bits binary32 minus_zero.v1.linear.y ≡ 0x8000_0000) × (to_bits binary32 pushed_by_zero.v1.linear.y ≡ 0)

@@ -21,7 +21,7 @@ pub data Given : Type 0 where
   pair_of : (dvel : Vec2) (degraded_dvel : Float) (previous : Vec2) (ra rb k12 flag : Float) → Given
   inv_of : Float → Given
   clamp_of : Float → Float → Given
-  normal_of_lem : (impulse r cfm dvel : Float) → Given
+  normal_of : (impulse r cfm dvel : Float) → Given
   restitution_of : (seed impulse accumulator r : Float) → Given
 
 pub data Result : Type 0 where
@@ -32,11 +32,11 @@ pub data Result : Type 0 where
 abbrev pub both : ℕ
 both = 1
 
-abbrev pub a_only_lem : ℕ
-a_only_lem = 2
+abbrev pub a_only : ℕ
+a_only = 2
 
-abbrev pub b_only_lem : ℕ
-b_only_lem = 3
+abbrev pub b_only : ℕ
+b_only = 3
 
 abbrev pub none : ℕ
 none = 4
@@ -58,7 +58,7 @@ unfoldable pub outcome : Given → Result
 outcome (pair_of dvel degraded_dvel previous ra rb k12 flag) = chosen (choice dvel degraded_dvel previous ra rb k12 flag (vec (num 1) (num 1)))
 outcome (inv_of x) = number (inv x)
 outcome (clamp_of x L) = number (clamp x L)
-outcome (normal_of_lem impulse r cfm dvel) = number (normal_impulse cfm impulse r dvel)
+outcome (normal_of impulse r cfm dvel) = number (normal_impulse cfm impulse r dvel)
 outcome (restitution_of seed impulse accumulator r) =
     let point = part (num 0) (num 0) impulse accumulator r half seed in
     number (restitution point (vec (num 0) (num 1)) (vec (num 1) (num 1)) (vec (num 1) (num 1)) at_rest).part.impulse
@@ -87,8 +87,8 @@ M n examples = record { mark = n; examples = examples }
 abbrev pub marks : List Row
 marks =
     M 1 ((pair_at (minus 5) (minus 3) gives impulses both (num 2) (num 1)) ∷ []) ∷
-    M 2 ((pair_at (minus 4) (minus 1) gives impulses a_only_lem (num 2) (num 0)) ∷ []) ∷
-    M 3 ((pair_at (minus 1) (minus 3) gives impulses b_only_lem (num 0) (num 3)) ∷ []) ∷
+    M 2 ((pair_at (minus 4) (minus 1) gives impulses a_only (num 2) (num 0)) ∷ []) ∷
+    M 3 ((pair_at (minus 1) (minus 3) gives impulses b_only (num 0) (num 3)) ∷ []) ∷
     M 4 ((pair_at (num 1) (num 1) gives impulses none (num 0) (num 0)) ∷ []) ∷
     M 5 ((pair_at (num 0) (num 0) gives impulses both (num 0) (num 0)) ∷ []) ∷
     -- r 1 and 1, k12 −2, p = q = 1, (−2, −2)
@@ -98,7 +98,7 @@ marks =
     gives impulses degraded (num 5 /f num 2) half) ∷ []) ∷
     M 8 ((inv_of (num 0) gives number (num 0)) ∷ (inv_of (minus 4) gives number (minus 1 /f num 4)) ∷ []) ∷
     M 9 ((clamp_of (minus 3) (num 1) gives number (minus 1)) ∷ (clamp_of (num 1) (num 1) gives number (num 1)) ∷ []) ∷
-    M 10 ((normal_of_lem (num 0) (num 1) half (minus 2) gives number (num 1)) ∷ []) ∷
+    M 10 ((normal_of (num 0) (num 1) half (minus 2) gives number (num 1)) ∷ []) ∷
     M 11 ((restitution_of (minus 1) (num 0) (num 1) (num 1) gives number (num 1)) ∷ []) ∷
     M 12 ((restitution_of (minus 1) (num 0) (num 0) (num 1) gives number (num 0)) ∷ []) ∷ []
 

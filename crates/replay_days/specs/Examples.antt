@@ -47,7 +47,7 @@ pub record Examples : Type 0 where
   pub surplus : judged (night ++ its_output ++ its_output ++ z) ≡ day_differs 49 50
   -- "day number from 1", then 2; "a last day with no D has 2 as its second field"
   pub second : judged (night ++ its_output ++ z ++ night ++ its_output) ≡ day_same 49 ++ day_same 50
-  pub no_d_lem : judged (night ++ its_output ++ z ++ (65 ∷ [])) ≡ day_same 49 ++ day_without_d 50
+  pub d_missing : judged (night ++ its_output ++ z ++ (65 ∷ [])) ≡ day_same 49 ++ day_without_d 50
   -- what stands after the last byte 10 is a line too: a recorded last line, whole or cut short, and a last D, after which the recorded output is empty
   pub line_unended : judged (night ++ x) ≡ day_same 49
   pub line_cut : judged (night ++ (88 ∷ 9 ∷ 49 ∷ [])) ≡ day_differs 49 49

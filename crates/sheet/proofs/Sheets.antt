@@ -28,10 +28,10 @@ all_read : (portions : List (List ℕ)) → AllRead portions
 unfolding Reads whole
 all_read [] y k line w k' line' w' f c = rw (append-nil, c.same_reader, c.same_line, c.same_cells) f
 all_read (s ∷ portions) y k line w k' line' w' f c =
-    let taken : Takes k line w s c.onward.reader c.next_line_lem c.next_cells = rw c.read at c.call.call in
-    let now : FedBy (y ++ s) c.onward.reader c.next_line_lem c.next_cells =
+    let taken : Takes k line w s c.onward.reader c.next_line c.next_cells = rw c.read at c.call.call in
+    let now : FedBy (y ++ s) c.onward.reader c.next_line c.next_cells =
     record { carried = fed_more y s f.carried taken; room = taken.kept ∙ f.room } in
-    rw append_assoc at (all_read portions (y ++ s) c.onward.reader c.next_line_lem c.next_cells k' line' w' now c.after)
+    rw append_assoc at (all_read portions (y ++ s) c.onward.reader c.next_line c.next_cells k' line' w' now c.after)
 
 pub sheet_answers : SheetAnswers
 sheet_answers portions rest k line w k' line' w' o o' number b room c v stopped =

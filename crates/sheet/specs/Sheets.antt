@@ -22,11 +22,11 @@ pub record NextRead (s : List ℕ) (After : Reader → List ℕ → Cells → Re
     (k' : Reader) (line' : List ℕ) (w' : Cells) : Type 0 where
   pub onward : Onward
   pub portion : List ℕ
-  pub next_line_lem : List ℕ
+  pub next_line : List ℕ
   pub next_cells : Cells
-  pub call : ReadOnce k line w onward portion next_line_lem next_cells
+  pub call : ReadOnce k line w onward portion next_line next_cells
   pub read : take onward.read portion ≡ s
-  pub after : After onward.reader next_line_lem next_cells k' line' w'
+  pub after : After onward.reader next_line next_cells k' line' w'
 
 unfoldable pub Reads : List (List ℕ) → Reader → List ℕ → Cells → Reader → List ℕ → Cells → Type 0
 Reads [] = NoRead

@@ -55,10 +55,10 @@ module _ (room : Counts) where
     next : Led (s ∷ portions)
     unfolding Calls taken_all
     next g k line w r line' w' e h c =
-        let now : reading_in c.next c.next_line_lem c.next_cells ≡ capped_in (taken room g s) = c.call.is ∙ rw (h, e) (taken_capped room g s) in
+        let now : reading_in c.next c.next_line c.next_cells ≡ capped_in (taken room g s) = c.call.is ∙ rw (h, e) (taken_capped room g s) in
         let w₁ : c.next_cells ≡ laid w (said_in (taken room g s)) =
         c.call.tables ∙ ap (laid w) (ap said_in now ∙ said_capped_in (taken room g s)) in
-        let rest = on (taken room g s) c.next c.next_line_lem c.next_cells r line' w' now (c.call.kept ∙ h) c.after in
+        let rest = on (taken room g s) c.next c.next_line c.next_cells r line' w' now (c.call.kept ∙ h) c.after in
         record { is = rest.is; tables = rest.tables ∙ rw w₁ (laid_over w (all_grow room (taken room g s) portions)) }
 
   all_led : (portions : List (List ℕ)) → Led portions

@@ -101,7 +101,7 @@ read_by s {r} {line₂} {w} {w₂} c = record {
 module _ {k k₁ r : Reader} {line line₁ line₂ : List ℕ} {w w₁ w₂ : Cells} (s : List ℕ) where
   both_calls : Takes k line w s k₁ line₁ w₁ → Ends k₁ line₁ w₁ r line₂ w₂ → Calls (s ∷ []) k line w r line₂ w₂
   unfolding Calls
-  both_calls d e = record { next = k₁; next_line_lem = line₁; next_cells = w₁; call = d; after = e }
+  both_calls d e = record { next = k₁; next_line = line₁; next_cells = w₁; call = d; after = e }
 
   pub read_whole : Begins k → Takes k line w s k₁ line₁ w₁ → Ends k₁ line₁ w₁ r line₂ w₂ → ReadWhole s w r w₂
   read_whole b d e = read_by s (any_calls (s ∷ []) k line w r line₂ w₂ b (both_calls d e))

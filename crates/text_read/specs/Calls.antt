@@ -15,10 +15,10 @@ use Rattle.text_read.specs.declared.Reader.{Reader}
 pub record NextCall (s : List ℕ) (After : Reader → List ℕ → Cells → Reader → List ℕ → Cells → Type 0) (k : Reader) (line : List ℕ) (w : Cells)
     (r : Reader) (line' : List ℕ) (w' : Cells) : Type 0 where
   pub next : Reader
-  pub next_line_lem : List ℕ
+  pub next_line : List ℕ
   pub next_cells : Cells
-  pub call : Takes k line w s next next_line_lem next_cells
-  pub after : After next next_line_lem next_cells r line' w'
+  pub call : Takes k line w s next next_line next_cells
+  pub after : After next next_line next_cells r line' w'
 
 -- a call of `portion` on each portion, then one of `end`
 unfoldable pub Calls : List (List ℕ) → Reader → List ℕ → Cells → Reader → List ℕ → Cells → Type 0

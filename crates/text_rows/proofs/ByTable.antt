@@ -1,7 +1,7 @@
 -- What is listed, by cases: how many rows, and the line of one. Assumes nothing.
 use Prim.Native.Nat.{ℕ, ◌*◌, ◌≤◌, ◌<◌}
 use native.Mathlib.Omega.{arith}
-use mathlib.Core.Path.{◌≡◌, refl}
+use mathlib.Core.Path.{◌≡◌}
 use mathlib.Core.List.{List}
 use Rattle.base_places.specs.Places.{answer_width, body_width, floats_width}
 use Rattle.base_rows.specs.Rows.{rows}

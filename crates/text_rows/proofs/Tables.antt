@@ -1,14 +1,10 @@
 -- Lines of a table's rows, from the part that was lent; and how many points of a contact have a line. Assumes nothing.
-use Prim.Native.Nat.{ℕ, suc, ◌+◌, ◌*◌, ◌-◌, ◌/◌, ◌%◌, ◌≤◌, ◌<◌}
+use Prim.Native.Nat.{ℕ, ◌+◌, ◌*◌, ◌-◌, ◌/◌, ◌%◌, ◌≤◌, ◌<◌}
 use native.Mathlib.Omega.{arith}
-use mathlib.Core.Path.{◌≡◌, refl, sym}
-use mathlib.Core.Bool.{Bool, true, false, ◌||◌}
+use mathlib.Core.Path.{◌≡◌}
 use mathlib.Core.List.{List, [], ◌∷◌}
-use borrow.Author.Tests.{eqb-true, le-ltb, lt-ltb, ne_eqb}
-use lib.Dec.{eqb}
+use borrow.Author.Tests.{le-ltb, lt-ltb, ne_eqb}
 use lib.ListN.{drop, get_or, length, length-drop, length-take, get_or-eq_default, take}
-use Rattle.base_words.specs.Choice.{if◌then◌otherwise◌}
-use Rattle.base_words.proofs.Pick as pick
 use Rattle.base_places.specs.Places.{answer_width, body_width, floats_width, numbers_width, place, point_place}
 use Rattle.base_places.specs.declared.Cell.TheVariants.{NormalImpulse, TangentImpulse}
 use Rattle.text_digits.specs.Wrote.{Wrote}

@@ -1,4 +1,3 @@
-use Prim.Native.Nat.{◌-◌}
 use Rattle.text_line.proofs.Stored.{over, turn}
 use Rattle.text_line.proofs.append_bits.Goals as goal
 

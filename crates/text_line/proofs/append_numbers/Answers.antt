@@ -1,5 +1,4 @@
 use Rattle.text_line.proofs.Stored.{over, sixteen, turn}
-use Prim.Native.Nat.{◌-◌}
 use Rattle.text_line.proofs.append_numbers.Goals as goal
 
 pub overflow_cast-t : goal.overflow_cast-t

@@ -1,5 +1,4 @@
 -- `text_read::feed` meets its contract. Turn after turn. Assumes nothing.
-use Prim.Native.Nat.{◌-◌}
 use borrow.Author.Rules.{rules}
 use Rattle.text_read.proofs.Going.{bad_fed, next_fed, over_fed}
 use Rattle.text_read.proofs.feed.Goals as goal

@@ -1,5 +1,4 @@
 -- `text_rows::list` meets its contract. The lines of the first i rows are written. Assumes nothing.
-use Prim.Native.Nat.{◌-◌}
 use borrow.Author.Rules.{rules}
 use Rattle.text_write.proofs.Lines.{from_start, line_more}
 use Rattle.text_rows.proofs.ByTable.{all_listed}

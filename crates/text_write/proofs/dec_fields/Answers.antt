@@ -1,5 +1,4 @@
 -- `text_write::dec_fields` meets its contract. The first i fields are written. Assumes nothing.
-use Prim.Native.Nat.{◌-◌}
 use Rattle.text_write.proofs.Fields.{none_yet, one_more}
 use Rattle.text_write.proofs.dec_fields.Goals as goal
 
