@@ -1,5 +1,5 @@
 -- A day's input, fed to its reader: all but a D that may be the input's end. Assumes nothing.
-use Prim.Native.Nat.{ℕ, ◌+◌}
+use Prim.Native.Nat.{ℕ}
 use native.Mathlib.Omega.{arith}
 use borrow.Author.Tests.{ne_eqb}
 use mathlib.Core.Bool.{Bool, true, false}

@@ -1,5 +1,4 @@
 -- `replay_judge::judge_portion` meets its contract. One line after the other. Assumes nothing.
-use Prim.Native.Nat.{◌-◌}
 use native.Mathlib.Omega.{arith}
 use mathlib.Core.Path.{refl}
 use borrow.Author.Rules.{rules}

@@ -1,5 +1,4 @@
 -- `text_answer::make_floats` meets its contract. The floats from number i on are still to be stored. Assumes nothing.
-use Prim.Native.Nat.{◌-◌}
 use native.Mathlib.Omega.{arith}
 use mathlib.Core.Path.{refl}
 use Rattle.text_answer.proofs.Floating.{begin, over, turn}

@@ -1,5 +1,4 @@
 -- `text_answer::print_bits` meets its contract. The first i numbers are printed. Assumes nothing.
-use Prim.Native.Nat.{◌-◌}
 use native.Mathlib.Omega.{arith}
 use mathlib.Core.Path.{refl}
 use Rattle.text_answer.proofs.Floating.{none_printed, print_one}
