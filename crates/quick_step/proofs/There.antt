@@ -118,3 +118,7 @@ module _ (bodies : List Float) (numbers : List ℕ) (floats : List Float) (k : �
 
   pub has_count : wrong_count (contact_at numbers floats k).head ≡ false
   has_count = (passed (rows body_width bodies) (contact_at numbers floats k) trust.sound).count
+
+  -- all of it
+  pub has_rows : (k < rows numbers_width numbers) × ((k < rows floats_width floats) × (wrong_count (contact_at numbers floats k).head ≡ false))
+  has_rows = (has_numbers, (has_floats, has_count))

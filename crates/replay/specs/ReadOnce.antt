@@ -1,6 +1,6 @@
--- What one reading hands on, for `replay_some`. No contract says what the system's `read` put into a buffer, or what its `write` took. So what was
--- read is said by the buffer that `read` left and how many of its bytes are counted; what was handed to be written, by the buffer of what is told and
--- the count that `write_out` answers. Assumes nothing.
+-- What one reading hands on, for `replay_some`. What was read is said by the buffer that `read` left and how many of its bytes are
+-- counted; what was handed to be written, by the buffer of what is told and the count that `write_out` answers. That these bytes were taken from what
+-- stood to be read, and written, is said beside it, in the function's other clauses. Assumes nothing.
 use Rattle.std.specs.Prelude.{ℕ, ◌&&◌, List, ◌≡◌, ltb, take}
 use Rattle.replay_judge.specs.Carried.{Buffers}
 use Rattle.replay_judge.specs.Stands.{Read}

@@ -1,6 +1,6 @@
--- What one reading and the end hand on, for `read_some` and `answer`. No contract says what the system's `read` put into a buffer, or what its
--- `write` took. So what was read is said by the buffer that `read` left and how many of its bytes are counted; what was handed to be written, by
--- the buffer of the answer and the count that `write_out` answers. Assumes nothing.
+-- What one reading and the end hand on, for `read_some` and `answer`. What was read is said by the buffer
+-- that `read` left and how many of its bytes are counted; what was handed to be written, by the buffer of the answer and the count that `write_out`
+-- answers. That these bytes were taken from what stood to be read, and written, is said beside it, in the functions' other clauses. Assumes nothing.
 use Rattle.std.specs.Prelude.{ℕ, ◌&&◌, not, List, ◌≡◌, ltb, take}
 use Rattle.text_line.specs.Night.{of_program}
 use Rattle.text_line.specs.Filled.{Cells}
