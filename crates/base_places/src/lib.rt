@@ -47,7 +47,7 @@ pub const NORMAL_IMPULSE: usize = IMPULSE;
 pub const TANGENT_IMPULSE: usize = NORMAL_WIDTH + IMPULSE;
 
 // The cells of a point that a step may store.
-#[derive(Clone, Copy)]
+#[derive(Clone, Copy, PartialEq, Eq)]
 pub enum Cell {
     NormalImpulse,
     TangentImpulse,
@@ -64,11 +64,11 @@ impl Cell {
         }
     }
 
-    // Whether it is that cell: no two stand in one place.
+    // Equality, in the definitions' word: no two cells stand in one place.
     pub fn is(self, that: Cell) -> bool
         ensures { result ≡ only that self }
     {
-        that.place() == self.place()
+        self == that
     }
 }
 
@@ -113,12 +113,9 @@ pub const PORTION: usize = 4096;
 
 pub const TOLD: usize = 64 * PORTION;
 
-// The largest number of a machine word.
-pub const LARGEST: usize = 18446744073709551615;
-
 // A count never goes past what a machine word holds.
 pub fn one_more(n: usize) -> usize
     ensures { result ≡ one_more n }
 {
-    if n < LARGEST { n + 1 } else { n }
+    n.saturating_add(1)
 }

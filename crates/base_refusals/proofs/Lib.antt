@@ -1,2 +1,4 @@
+pub mod Numbers
 pub mod Chain
 pub mod Exact
+pub mod Told

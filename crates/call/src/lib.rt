@@ -4,18 +4,19 @@
 
 ghost use Rattle.std.specs.Prelude.{◌≡◌};
 ghost use Rattle.list_rules.specs.Sweep.{tables};
-ghost use Rattle.call_rules.specs.Call.{end, lend};
+ghost use Rattle.call.specs.Ended.{ended};
+ghost use Rattle.call_rules.specs.Call.{lend};
 ghost use Rattle.call_rules.specs.Demands.{Demand2};
 
+use base_refusals::Refusal;
 use list_checks::whole_call;
 use list_tables::steps_among;
+use quick_step::Lent;
 use quick_sweep::sweep;
 
-// The number that refuses the whole call, or 0; how many steps were done, and how many of those were
-// refused.
-#[derive(Clone, Copy)]
-pub struct Report {
-    pub refusal: u16,
+// How many steps were done, and how many of those were refused.
+#[derive(Clone, Copy, PartialEq, Eq)]
+pub struct Done {
     pub done: usize,
     pub refused: usize,
 }
@@ -29,22 +30,16 @@ pub fn call(
     steps: &[u16],
     room: &mut [u16],
     budget: usize,
-) -> Report
-    ensures { Demand2 (lend (tables bodies.old numbers.now floats.old) steps.now room.old) budget (end result.refusal result.done result.refused (tables bodies.new numbers.now floats.new) room.new) }
+) -> Result<Done, Refusal>
+    ensures { Demand2 (lend (tables bodies.old numbers.now floats.old) steps.now room.old) budget (ended result (tables bodies.new numbers.now floats.new) room.new) }
 {
-    let refusal = whole_call(bodies, numbers, floats, steps, room);
-    if refusal != 0 {
-        return Report {
-            refusal,
-            done: 0,
-            refused: 0,
-        };
-    }
+    whole_call(bodies, numbers, floats, steps, room)?;
     let done = steps_among(steps, budget);
-    let refused = sweep(bodies, numbers, floats, steps, room, done);
-    Report {
-        refusal: 0,
-        done,
-        refused,
-    }
+    let mut lent = Lent {
+        bodies,
+        numbers,
+        floats,
+    };
+    let refused = sweep(&mut lent, steps, room, done);
+    Ok(Done { done, refused })
 }

@@ -16,11 +16,10 @@ use Rattle.elem_leaves.specs.Leaves.{inv, max0}
 use Rattle.elem_leaves.specs.Signs.{AtLeast0, InUnit, NotBelow0}
 use Rattle.elem_leaves.proofs.Signs.{max0_at_least, not_below, product_at_least}
 use Rattle.elem_leaves.specs.declared.Vec2.{Vec2}
-use Rattle.elem_impulse.specs.Block.{a_only, alone, b_only, block_choice, both, candidates, first_passing, kept, neither, system}
+use Rattle.elem_impulse.specs.Block.{Candidate, a_only, alone, b_only, block_choice, both, candidates, first_passing, kept, neither, system}
 use Rattle.elem_impulse.specs.Pair.{choice, degraded}
 use Rattle.elem_impulse.specs.Point.{normal_impulse, restitution_impulse}
 use Rattle.elem_impulse.specs.Pushing.{CandidatesPush, FirstPassing, FlagAboveHalf, PairInput, InOrder, Made, RulesPush, OfBoth, PairsKeep, Pushes, PushesIfPassing, pair_gives}
-use Rattle.elem_impulse.specs.declared.Candidate.{Candidate}
 use Rattle.elem_impulse.specs.declared.PairChoice.{PairChoice}
 
 -- what every number of 0 or above has, a new impulse has where the old one had it

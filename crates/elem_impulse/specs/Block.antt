@@ -1,5 +1,6 @@
 -- Document 01, "Arithmetic": the block choice, and the branch numbers of "Numbers that refuse". Assumes nothing.
-use Rattle.std.specs.Prelude.{ℕ, ◌&&◌, List, [], ◌∷◌, Float}
+use Rattle.std.specs.Prelude.{ℕ, Bool, Option, None, Some, ◌&&◌, List, [], ◌∷◌, Float}
+use Rattle.std.specs.Bool.{then_some}
 use Rattle.std.specs.Float.Ieee.{neg}
 use Rattle.base_words.specs.Choice.{if◌then◌otherwise◌}
 use Rattle.elem_leaves.specs.Floats.{◌+f◌, ◌-f◌, ◌*f◌, ◌>f◌, ◌≥f◌, zero}
@@ -8,8 +9,6 @@ use Rattle.elem_leaves.specs.declared.Vec2.{Vec2}
 use Rattle.elem_impulse.specs.declared.Branch.{Branch}
 use Rattle.elem_impulse.specs.declared.Branch.TheVariants.{Both, OnlyA, OnlyB, Neither, Kept, Degraded}
 use Rattle.elem_impulse.specs.declared.PairChoice.{PairChoice}
-use Rattle.elem_impulse.specs.declared.Candidate.{Candidate}
-use Rattle.elem_impulse.specs.declared.OnePoint.{OnePoint}
 use Rattle.elem_impulse.specs.declared.System.{System}
 
 -- for a done kind 4: 1 both, 2 a only, 3 b only, 4 none, 5 previous kept, 6 degraded
@@ -20,6 +19,28 @@ branch_number OnlyB = 3
 branch_number Neither = 4
 branch_number Kept = 5
 branch_number Degraded = 6
+
+-- and for every other kind 0, since it has no branch
+abbrev pub branch_word : Option Branch → ℕ
+branch_word None = 0
+branch_word (Some branch) = branch_number branch
+
+-- one point pushing alone, and whether it may
+pub record OnePoint : Type 0 where
+  pub passes : Bool
+  pub impulse : Float
+
+-- a way to solve the pair, and whether it is allowed
+pub record Candidate : Type 0 where
+  pub passes : Bool
+  pub choice : PairChoice
+
+-- what is left of each where it passes: the code has nothing else of it
+abbrev pub pushing : OnePoint → Option Float
+pushing p = then_some p.passes p.impulse
+
+abbrev pub passing : Candidate → Option PairChoice
+passing c = then_some c.passes c.choice
 
 -- the impulses of a and b, and the branch
 abbrev pub chose : Branch → Float → Float → PairChoice

@@ -7,12 +7,11 @@ use Rattle.base_words.specs.Each.{Each}
 use Rattle.elem_leaves.specs.Floats.{◌>f◌, half}
 use Rattle.elem_leaves.specs.Signs.{AtLeast0, InUnit, NotBelow0}
 use Rattle.elem_leaves.specs.declared.Vec2.{Vec2}
-use Rattle.elem_impulse.specs.Block.{candidates, system}
+use Rattle.elem_impulse.specs.Block.{Candidate, candidates, system}
 use Rattle.elem_impulse.specs.Pair.{choice}
 use Rattle.elem_impulse.specs.Point.{normal_impulse, restitution_impulse}
 use Rattle.elem_impulse.specs.declared.Branch.{Branch}
 use Rattle.elem_impulse.specs.declared.Branch.TheVariants.{Both, OnlyA, OnlyB, Neither, Kept}
-use Rattle.elem_impulse.specs.declared.Candidate.{Candidate}
 use Rattle.elem_impulse.specs.declared.PairChoice.{PairChoice}
 use Rattle.elem_impulse.specs.declared.System.{System}
 

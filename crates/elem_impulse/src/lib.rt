@@ -1,17 +1,18 @@
 // How hard a contact point pushes after a turn, alone or beside another. It sees numbers alone, so that every
-// device with normal parts can share it.
+// device with normal parts can share it. A pair's numbers are parameters of their own, as in the Rust's
+// solve_mlcp_two_constraints, and not a record, which would be filled once and taken apart at once.
 #![tactic(auto)]
 
 ghost use Rattle.std.specs.Prelude.{◌≡◌};
 ghost use Rattle.elem_impulse.specs.Point.{normal_impulse, restitution_impulse};
 ghost use Rattle.elem_impulse.specs.Pair.{choice, degraded};
-ghost use Rattle.elem_impulse.specs.Block.{alone, a_only, b_only, both, branch_number, neither};
+ghost use Rattle.elem_impulse.specs.Block.{alone, a_only, b_only, both, branch_number, neither, passing, pushing};
 ghost use Rattle.elem_impulse.specs.Block.{block_choice, candidates, first_passing, kept, system};
 
 use elem_leaves::{Vec2, inv, max0};
 
 // How a pair of points was solved.
-#[derive(Clone, Copy)]
+#[derive(Clone, Copy, PartialEq, Eq)]
 pub enum Branch {
     Both,
     OnlyA,
@@ -21,12 +22,12 @@ pub enum Branch {
     Degraded,
 }
 
-impl Branch {
-    // The number that an answer gives it.
-    pub fn number(self) -> u16
-        ensures { result ≡ branch_number self }
-    {
-        match self {
+// The number that an answer gives it.
+impl From<Branch> for u16 {
+    ghost from_gives = { λ branch number. number ≡ branch_number branch };
+
+    fn from(branch: Branch) -> u16 {
+        match branch {
             Branch::Both => 1,
             Branch::OnlyA => 2,
             Branch::OnlyB => 3,
@@ -44,20 +45,6 @@ pub struct PairChoice {
     pub impulse: Vec2,
 }
 
-// A way to solve the pair, and whether it is allowed.
-#[derive(Clone, Copy)]
-pub struct Candidate {
-    pub passes: bool,
-    pub choice: PairChoice,
-}
-
-// One point pushing alone.
-#[derive(Clone, Copy)]
-pub struct OnePoint {
-    pub passes: bool,
-    pub impulse: f32,
-}
-
 // The softened system that the candidates solve: 0 <= x, 0 <= K'x + b, one of them zero at each
 // point. K' has kp11 and kp22 on its diagonal and k12 beside it.
 #[derive(Clone, Copy)]
@@ -70,6 +57,7 @@ pub struct System {
 }
 
 impl System {
+    #[tactic(auto, unfolding(crate::specs::Block::system))]
     fn new(dvel: Vec2, prev: Vec2, ra: f32, rb: f32, k12: f32, cfm: Vec2) -> System
         ensures { result ≡ system dvel prev ra rb k12 cfm }
     {
@@ -88,8 +76,9 @@ impl System {
         }
     }
 
-    fn both(self) -> Candidate
-        ensures { result ≡ both self }
+    #[tactic(auto, unfolding(crate::specs::Block::both))]
+    fn both(self) -> Option<PairChoice>
+        ensures { result ≡ passing (both self) }
     {
         let b1 = self.b1;
         let b2 = self.b2;
@@ -100,57 +89,45 @@ impl System {
         let f = inv(det);
         let x = (k12 * b2 - kp22 * b1) * f;
         let y = (k12 * b1 - kp11 * b2) * f;
-        Candidate {
-            passes: (det > 0.0) & (x >= 0.0) & (y >= 0.0),
-            choice: PairChoice {
-                branch: Branch::Both,
-                impulse: Vec2 { x, y },
-            },
-        }
+        let passes = (det > 0.0) & (x >= 0.0) & (y >= 0.0);
+        passes.then_some(PairChoice {
+            branch: Branch::Both,
+            impulse: Vec2 { x, y },
+        })
     }
 
-    fn only_a(self) -> Candidate
-        ensures { result ≡ a_only self }
+    // A only and b only share `alone`; they differ in their rows, their branch and where the impulse stands.
+    #[tactic(auto, unfolding(crate::specs::Block::a_only))]
+    fn only_a(self) -> Option<PairChoice>
+        ensures { result ≡ passing (a_only self) }
     {
-        let a = alone(self.b1, self.kp11, self.b2, self.k12);
-        Candidate {
-            passes: a.passes,
-            choice: PairChoice {
-                branch: Branch::OnlyA,
-                impulse: Vec2 {
-                    x: a.impulse,
-                    y: 0.0,
-                },
-            },
-        }
+        let x = alone(self.b1, self.kp11, self.b2, self.k12)?;
+        Some(PairChoice {
+            branch: Branch::OnlyA,
+            impulse: Vec2 { x, y: 0.0 },
+        })
     }
 
-    fn only_b(self) -> Candidate
-        ensures { result ≡ b_only self }
+    #[tactic(auto, unfolding(crate::specs::Block::b_only))]
+    fn only_b(self) -> Option<PairChoice>
+        ensures { result ≡ passing (b_only self) }
     {
-        let b = alone(self.b2, self.kp22, self.b1, self.k12);
-        Candidate {
-            passes: b.passes,
-            choice: PairChoice {
-                branch: Branch::OnlyB,
-                impulse: Vec2 {
-                    x: 0.0,
-                    y: b.impulse,
-                },
-            },
-        }
+        let y = alone(self.b2, self.kp22, self.b1, self.k12)?;
+        Some(PairChoice {
+            branch: Branch::OnlyB,
+            impulse: Vec2 { x: 0.0, y },
+        })
     }
 
-    fn neither(self) -> Candidate
-        ensures { result ≡ neither self }
+    #[tactic(auto, unfolding(crate::specs::Block::neither))]
+    fn neither(self) -> Option<PairChoice>
+        ensures { result ≡ passing (neither self) }
     {
-        Candidate {
-            passes: (self.b1 >= 0.0) & (self.b2 >= 0.0),
-            choice: PairChoice {
-                branch: Branch::Neither,
-                impulse: Vec2 { x: 0.0, y: 0.0 },
-            },
-        }
+        let passes = (self.b1 >= 0.0) & (self.b2 >= 0.0);
+        passes.then_some(PairChoice {
+            branch: Branch::Neither,
+            impulse: Vec2 { x: 0.0, y: 0.0 },
+        })
     }
 
     // The first candidate that passes; where none does, the previous impulses.
@@ -161,40 +138,25 @@ impl System {
         let only_a = self.only_a();
         let only_b = self.only_b();
         let neither = self.neither();
-        if both.passes {
-            let choice = both.choice;
-            return choice;
-        }
-        if only_a.passes {
-            let choice = only_a.choice;
-            return choice;
-        }
-        if only_b.passes {
-            let choice = only_b.choice;
-            return choice;
-        }
-        if neither.passes {
-            let choice = neither.choice;
-            return choice;
-        }
-        PairChoice {
+        let kept = PairChoice {
             branch: Branch::Kept,
             impulse: prev,
-        }
+        };
+        both.or(only_a).or(only_b).or(neither).unwrap_or(kept)
     }
 }
 
 // A point whose row of the system is b and kp, beside one whose b is other.
-fn alone(b: f32, kp: f32, other: f32, k12: f32) -> OnePoint
-    ensures { result ≡ alone b kp other k12 }
+#[tactic(auto, unfolding(crate::specs::Block::alone))]
+fn alone(b: f32, kp: f32, other: f32, k12: f32) -> Option<f32>
+    ensures { result ≡ pushing (alone b kp other k12) }
 {
     let x = -b * inv(kp);
-    OnePoint {
-        passes: (x >= 0.0) & (other + k12 * x >= 0.0),
-        impulse: x,
-    }
+    let passes = (x >= 0.0) & (other + k12 * x >= 0.0);
+    passes.then_some(x)
 }
 
+#[tactic(auto, unfolding(crate::specs::Block::block_choice))]
 fn block_choice(dvel: Vec2, prev: Vec2, ra: f32, rb: f32, k12: f32, cfm: Vec2) -> PairChoice
     ensures { result ≡ block_choice dvel prev ra rb k12 cfm }
 {
@@ -202,6 +164,7 @@ fn block_choice(dvel: Vec2, prev: Vec2, ra: f32, rb: f32, k12: f32, cfm: Vec2) -
 }
 
 // The new impulse of a point that is solved by itself.
+#[tactic(auto, unfolding(crate::specs::Point::normal_impulse))]
 pub fn normal_impulse(cfm: f32, impulse: f32, r: f32, dvel: f32) -> f32
     ensures { result ≡ normal_impulse cfm impulse r dvel }
 {
@@ -209,6 +172,7 @@ pub fn normal_impulse(cfm: f32, impulse: f32, r: f32, dvel: f32) -> f32
 }
 
 // The new impulse of a point that may bounce: only one that has pushed in this recording does.
+#[tactic(auto, unfolding(crate::specs::Point::restitution_impulse))]
 pub fn restitution_impulse(seed: f32, total: f32, impulse: f32, r: f32, dvel: f32) -> f32
     ensures { result ≡ restitution_impulse seed total impulse r dvel }
 {
@@ -220,6 +184,7 @@ pub fn restitution_impulse(seed: f32, total: f32, impulse: f32, r: f32, dvel: f3
 }
 
 // One point after the other, k12 carrying what a's change does to b.
+#[tactic(auto, unfolding(crate::specs::Pair::degraded))]
 fn degraded(
     dvel: Vec2,
     degraded_dvel: f32,
@@ -240,6 +205,7 @@ fn degraded(
 }
 
 // The new impulses of two coupled points: as a block where the flag allows it, else degraded.
+#[tactic(auto, unfolding(crate::specs::Pair::choice))]
 pub fn choice(
     dvel: Vec2,
     degraded_dvel: f32,

@@ -1,2 +1,2 @@
-pub mod Itself
+pub mod Finite
 pub mod Signs

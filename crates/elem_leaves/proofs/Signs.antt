@@ -1,6 +1,6 @@
 -- The statements of specs/Signs.antt: comparisons with 0 look at a sign, and rounding keeps it. Assumes nothing.
 use Prim.Native.Nat.{ℕ, zero, suc, ◌+◌, ◌*◌, ◌^◌, ◌<◌}
-use native.Mathlib.Nat.{mul-pos, mul-zero, zero-mul}
+use native.Mathlib.Nat.{mul-pos, mul-zero, eq_of_mul-eq-mul_right, zero-mul}
 use native.Mathlib.Omega.{arith}
 use mathlib.Core.Logic.{◌⊎◌, inl, inr}
 use mathlib.Core.Path.{◌≡◌, refl, sym, ap, ◌∙◌}
@@ -16,7 +16,9 @@ use Rattle.elem_leaves.specs.Finite.{finite}
 use Rattle.elem_leaves.specs.Floats.{◌*f◌, ◌>f◌, one}
 use Rattle.elem_leaves.specs.Leaves.{max0}
 use Rattle.elem_leaves.specs.Signs.{AtLeast0, NotBelow0, OutlastsProducts, Signs}
-use Rattle.elem_leaves.proofs.Itself.{no_factor}
+
+no_factor : (x c d : ℕ) → 0 < c → x * c ≡ 0 * d → x ≡ 0
+no_factor x c d h p = eq_of_mul-eq-mul_right c h x 0 (p ∙ zero-mul d ∙ sym (zero-mul c))
 
 -- 0 or above, by what the float is
 abbrev pub upward : Float → Bool

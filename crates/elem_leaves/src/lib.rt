@@ -13,6 +13,7 @@ pub struct Vec2 {
 }
 
 impl Vec2 {
+    #[tactic(auto, unfolding(crate::specs::Leaves::dot))]
     pub fn dot(self, other: Vec2) -> f32
         ensures { result ≡ dot self other }
     {
@@ -20,6 +21,7 @@ impl Vec2 {
     }
 
     // A quarter turn: the direction of friction at a contact whose direction this is.
+    #[tactic(auto, unfolding(crate::specs::Leaves::tangent))]
     pub fn tangent(self) -> Vec2
         ensures { result ≡ tangent self }
     {
@@ -39,14 +41,16 @@ impl Reciprocal {
     pub const CUTOFF: f32 = 1e-20;
 }
 
-// The larger of x and zero; plus zero for a NaN and for minus zero.
+// The larger of x and zero; plus zero for a NaN and for minus zero, which f32::max may keep.
+#[tactic(auto, unfolding(crate::specs::Leaves::max0))]
 pub fn max0(x: f32) -> f32
     ensures { result ≡ max0 x }
 {
     if x > 0.0 { x } else { 0.0 }
 }
 
-// A NaN is kept, so that the step that made it is refused.
+// A NaN is kept, so that the step that made it is refused. f32::clamp would ask that the limit is not below zero.
+#[tactic(auto, unfolding(crate::specs::Leaves::clamp))]
 pub fn clamp(x: f32, limit: f32) -> f32
     ensures { result ≡ clamp x limit }
 {
@@ -59,6 +63,7 @@ pub fn clamp(x: f32, limit: f32) -> f32
     x
 }
 
+#[tactic(auto, unfolding(crate::specs::Leaves::inv))]
 pub fn inv(x: f32) -> f32
     ensures { result ≡ inv x }
 {
@@ -66,9 +71,10 @@ pub fn inv(x: f32) -> f32
     if cut { 0.0 } else { 1.0 / x }
 }
 
-// Neither a NaN nor an infinity: only a number taken from itself leaves zero.
+// Neither a NaN nor an infinity.
+#[tactic(auto, using(crate::proofs::Finite::same_finite))]
 pub fn is_finite(x: f32) -> bool
     ensures { result ≡ finite x }
 {
-    x - x == 0.0
+    x.is_finite()
 }

@@ -1,6 +1,7 @@
 // The normal part of a contact point, alone and in pairs, as in the Rust's
 // contact_constraint_element.rs for one lane of f32 in the plane: the same names in the same order.
-// A routine takes the part and the two velocities by value and gives the new ones back.
+// A routine takes the part and the two velocities by value and gives the new ones back. dir1, im1, im2
+// and vels are parameters of their own, since the Rust's signatures have them so, and PartsPush too.
 #![tactic(auto)]
 
 ghost use Rattle.std.specs.Prelude.{◌≡◌};
@@ -46,6 +47,7 @@ pub struct PairSolved {
 }
 
 impl ContactConstraintNormalPart {
+    // Document 01 wants both: a named constant, and the Rust's zero().
     pub const ZERO: ContactConstraintNormalPart = ContactConstraintNormalPart {
         torque_dir1: 0.0,
         torque_dir2: 0.0,
@@ -59,6 +61,7 @@ impl ContactConstraintNormalPart {
         seed: 0.0,
     };
 
+    #[tactic(auto, unfolding(crate::specs::Normal::normal_zero))]
     pub fn zero() -> ContactConstraintNormalPart
         ensures { result ≡ normal_zero }
     {
@@ -72,6 +75,7 @@ impl ContactConstraintNormalPart {
         self.impulse_accumulator + self.impulse
     }
 
+    #[tactic(auto, unfolding(crate::specs::Normal::normal_warm))]
     pub fn warmstart(self, dir1: Vec2, im1: Vec2, im2: Vec2, vels: Vels) -> Vels
         ensures { result ≡ normal_warm self dir1 im1 im2 vels }
     {
@@ -85,14 +89,15 @@ impl ContactConstraintNormalPart {
         )
     }
 
-    fn with_impulse(mut self, n: f32) -> ContactConstraintNormalPart
+    #[tactic(auto, unfolding(crate::specs::Normal::normal_with))]
+    fn with_impulse(self, n: f32) -> ContactConstraintNormalPart
         ensures { result ≡ normal_with self n }
     {
-        self.impulse = n;
-        self
+        ContactConstraintNormalPart { impulse: n, ..self }
     }
 
     // The change to n is pushed, even when it is zero, and n stored.
+    #[tactic(auto, unfolding(crate::specs::Normal::normal_moved))]
     fn moved(self, n: f32, dir1: Vec2, im1: Vec2, im2: Vec2, vels: Vels) -> NormalSolved
         ensures { result ≡ normal_moved self n dir1 im1 im2 vels }
     {
@@ -110,6 +115,7 @@ impl ContactConstraintNormalPart {
         }
     }
 
+    #[tactic(auto, unfolding(crate::specs::Normal::normal))]
     pub fn solve(self, dir1: Vec2, im1: Vec2, im2: Vec2, vels: Vels) -> NormalSolved
         ensures { result ≡ normal self dir1 im1 im2 vels }
     {
@@ -118,6 +124,7 @@ impl ContactConstraintNormalPart {
         self.moved(n, dir1, im1, im2, vels)
     }
 
+    #[tactic(auto, unfolding(crate::specs::Normal::restitution))]
     pub fn solve_restitution(self, dir1: Vec2, im1: Vec2, im2: Vec2, vels: Vels) -> NormalSolved
         ensures { result ≡ restitution self dir1 im1 im2 vels }
     {
@@ -143,6 +150,7 @@ impl ContactConstraintNormalPart {
         choice(dvel, degraded_dvel, prev, ra, rb, k12, flag, cfm)
     }
 
+    #[tactic(auto, unfolding(crate::specs::Pair::pair))]
     pub fn solve_pair(
         a: ContactConstraintNormalPart,
         b: ContactConstraintNormalPart,
@@ -161,12 +169,14 @@ impl ContactConstraintNormalPart {
 }
 
 // A pair's dvel at one point: what the two share first. It differs in rounding from Vels::dvel.
+#[tactic(auto, unfolding(crate::specs::Pair::pair_dvel))]
 fn pair_dvel(lin: f32, part: ContactConstraintNormalPart, vels: Vels) -> f32
     ensures { result ≡ pair_dvel lin part vels }
 {
     lin + part.torque_dir1 * vels.v1.angular + part.torque_dir2 * vels.v2.angular + part.rhs
 }
 
+#[tactic(auto, unfolding(crate::specs::Pair::pair_choice))]
 fn pair_choice(
     a: ContactConstraintNormalPart,
     b: ContactConstraintNormalPart,
@@ -202,6 +212,7 @@ fn pair_choice(
 }
 
 // Both velocities after the changes x of point a and y of point b.
+#[tactic(auto, unfolding(crate::specs::Pair::pair_push))]
 fn pair_push(
     a: ContactConstraintNormalPart,
     b: ContactConstraintNormalPart,
@@ -224,6 +235,7 @@ fn pair_push(
     }
 }
 
+#[tactic(auto, unfolding(crate::specs::Pair::pair_moved))]
 fn pair_moved(
     a: ContactConstraintNormalPart,
     b: ContactConstraintNormalPart,

@@ -1,6 +1,6 @@
 // The tangent part of a contact point, as in the Rust's contact_constraint_element.rs for one lane
 // of f32 in the plane, with its names. A routine takes the part and the two velocities by value and
-// gives the new ones back.
+// gives the new ones back. tangent1, im1, im2 and vels are parameters of their own, as there.
 #![tactic(auto)]
 
 ghost use Rattle.std.specs.Prelude.{◌≡◌};
@@ -30,6 +30,7 @@ pub struct TangentSolved {
 }
 
 impl ContactConstraintTangentPart {
+    // Document 01 wants both: a named constant, and the Rust's zero().
     pub const ZERO: ContactConstraintTangentPart = ContactConstraintTangentPart {
         torque_dir1: 0.0,
         torque_dir2: 0.0,
@@ -41,6 +42,7 @@ impl ContactConstraintTangentPart {
         r: 0.0,
     };
 
+    #[tactic(auto, unfolding(crate::specs::Tangent::tangent_zero))]
     pub fn zero() -> ContactConstraintTangentPart
         ensures { result ≡ tangent_zero }
     {
@@ -54,6 +56,7 @@ impl ContactConstraintTangentPart {
         self.impulse_accumulator + self.impulse
     }
 
+    #[tactic(auto, unfolding(crate::specs::Tangent::tangent_warm))]
     pub fn warmstart(self, tangent1: Vec2, im1: Vec2, im2: Vec2, vels: Vels) -> Vels
         ensures { result ≡ tangent_warm self tangent1 im1 im2 vels }
     {
@@ -67,6 +70,7 @@ impl ContactConstraintTangentPart {
         )
     }
 
+    #[tactic(auto, unfolding(crate::specs::Tangent::friction, crate::specs::Tangent::tangent_with))]
     pub fn solve(
         self,
         tangent1: Vec2,
@@ -80,10 +84,8 @@ impl ContactConstraintTangentPart {
         let dvel = vels.dvel(tangent1, self.torque_dir1, self.torque_dir2, self.rhs);
         let n = clamp(self.impulse - self.r * dvel, limit);
         let dlambda = n - self.impulse;
-        let mut part = self;
-        part.impulse = n;
         TangentSolved {
-            part,
+            part: ContactConstraintTangentPart { impulse: n, ..self },
             vels: vels.push(
                 tangent1,
                 im1,

@@ -1,5 +1,6 @@
 // The velocities that a contact reads and pushes: document 01's dvel and push. Both parts of a
-// contact point, the normal and the tangent, read and push by these two rules.
+// contact point, the normal and the tangent, read and push by these two rules. Their numbers come one by
+// one, as the Rust's lines name them: a part has them among others, and there are two kinds of part.
 #![tactic(auto)]
 
 ghost use Rattle.std.specs.Prelude.{◌≡◌};
@@ -22,12 +23,14 @@ pub struct Vels {
 }
 
 impl SolverVel {
+    // Document 01 wants both: a named constant, and the Rust's zero().
     pub const ZERO: SolverVel = SolverVel {
         linear: Vec2 { x: 0.0, y: 0.0 },
         angular: 0.0,
     };
 
     // A body at rest, and what the floor reads as.
+    #[tactic(auto, unfolding(crate::specs::Velocity::rest))]
     pub fn zero() -> SolverVel
         ensures { result ≡ rest }
     {
@@ -35,6 +38,7 @@ impl SolverVel {
     }
 
     // The velocity after an impulse l along d, on a body whose inverse masses are im, and a turn.
+    #[tactic(auto, unfolding(crate::specs::Velocity::moved))]
     pub fn moved(self, d: Vec2, im: Vec2, l: f32, turn: f32) -> SolverVel
         ensures { result ≡ moved self d im l turn }
     {
@@ -50,6 +54,7 @@ impl SolverVel {
 
 impl Vels {
     // How fast the bodies part along d at a contact point, with what rhs adds.
+    #[tactic(auto, unfolding(crate::specs::Velocity::dvel))]
     pub fn dvel(self, d: Vec2, t1: f32, t2: f32, rhs: f32) -> f32
         ensures { result ≡ dvel d t1 t2 rhs self }
     {
@@ -61,6 +66,7 @@ impl Vels {
     }
 
     // Both velocities after an impulse l: along d on body 1, against d on body 2.
+    #[tactic(auto, unfolding(crate::specs::Velocity::push))]
     pub fn push(self, d: Vec2, im1: Vec2, im2: Vec2, ii1: f32, ii2: f32, l: f32) -> Vels
         ensures { result ≡ push d im1 im2 ii1 ii2 l self }
     {

@@ -3,6 +3,8 @@
 use Rattle.std.specs.Prelude.{ℕ, Bool, ◌&&◌, List, [], ◌∷◌, ltb, Float, get_or, set}
 use Rattle.base_places.specs.Places.{answer_width, body_width, cells, floats_width, place, point_place, point_width}
 use Rattle.base_places.specs.declared.Cell.{Cell}
+use Rattle.base_refusals.specs.Numbers.{refusal_number}
+use Rattle.base_refusals.specs.declared.Refusal.{Refusal}
 use Rattle.base_words.specs.Choice.{if◌then◌otherwise◌}
 use Rattle.elem_velocity.specs.declared.SolverVel.{SolverVel}
 use Rattle.step_contact.specs.Cells.{in_cell}
@@ -46,6 +48,10 @@ put_contact kind c l =
 
 unfoldable pub put_impulses : List Float → ℕ → ℕ → Contact → List Float
 put_impulses floats k kind c = on_row floats_width k (put_contact kind c) floats
+
+-- what a refused step answers
+abbrev pub refused_by : Refusal → Answer
+refused_by refusal = record { number = refusal_number refusal; branch = 0 }
 
 -- A step answers its number and a branch, as they are read ..
 unfoldable pub answer_of : List ℕ → Answer

@@ -6,19 +6,32 @@ ghost use Rattle.std.specs.Prelude.{◌≡◌, ◌<◌, length};
 ghost use Rattle.base_rows.specs.Rows.{rows};
 ghost use Rattle.base_places.specs.Places.{answer_width, body_width, floats_width, place, point_width};
 ghost use Rattle.step_contact.specs.Cells.{in_cell};
-ghost use Rattle.list_cells.specs.Cells.{answer_row, put_answer, put_contact, put_if, put_impulses};
+ghost use Rattle.list_cells.specs.Cells.{answer_row, put_answer, put_contact, put_if, put_impulses, refused_by};
 ghost use Rattle.list_cells.specs.Cells.{put_point, put_vel, vel_row};
 
 use base_places::{ANSWER_WIDTH, BODY_WIDTH, Cell, FLOATS_WIDTH, POINT_A, POINT_B};
+use base_refusals::Refusal;
 use elem_velocity::SolverVel;
 use step_contact::{Contact, ContactHead, ContactPoint, FLOOR};
 use step_kinds::stores;
 
-// The number of a refusal, or 0; and how a pair was solved, or 0.
+// The number of a refusal, or 0; and how a pair was solved, or 0. As two numbers, since it is a row of the room, as
+// document 01 has it.
 #[derive(Clone, Copy)]
 pub struct Answer {
     pub number: u16,
     pub branch: u16,
+}
+
+impl From<Refusal> for Answer {
+    ghost from_gives = { λ refusal answer. answer ≡ refused_by refusal };
+
+    fn from(refusal: Refusal) -> Answer {
+        Answer {
+            number: u16::from(refusal),
+            branch: 0,
+        }
+    }
 }
 
 fn store_velocity(s: &mut [f32], v: SolverVel)

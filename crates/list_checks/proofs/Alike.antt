@@ -9,9 +9,7 @@ use Rattle.base_rows.specs.Rows.{rows}
 use Rattle.list_tables.specs.declared.Step.{Step}
 use Rattle.base_order.specs.OneByOne.{any}
 use Rattle.list_rules.specs.Sweep.{Tables, first_steps}
-use Rattle.list_checks.specs.Checks.{faulty, some_faulty, some_uneven, too_many, uneven, whole_call, wrong_sizes}
-use Rattle.list_checks.specs.declared.Fault.{Fault}
-use Rattle.list_checks.specs.declared.Fault.TheVariants.{KindAbove, NoContact}
+use Rattle.list_checks.specs.Checks.{Fault, KindAbove, NoContact, faulty, some_faulty, some_uneven, too_many, uneven, whole_call, wrong_sizes}
 
 module _ (t : Tables) (steps room steps' room' : List ℕ) where
   -- 1: the list has as many rows, and list and room are whole rows in both or in neither

@@ -18,9 +18,8 @@ use Rattle.base_order.specs.OneByOne.{any}
 use Rattle.base_order.proofs.Snoc.{any_none, any_snoc}
 use Rattle.list_rules.specs.Sweep.{first_steps}
 use Rattle.list_rules.proofs.Going.{first_more, first_none}
-use Rattle.list_checks.specs.Checks.{faulty, some_faulty}
+use Rattle.list_checks.specs.Checks.{KindAbove, NoContact, faulty, some_faulty}
 use Rattle.list_checks.specs.LargestOf.{largest, largest_of}
-use Rattle.list_checks.specs.declared.Fault.TheVariants.{KindAbove, NoContact}
 use Rattle.list_checks.specs.declared.Most.{Most}
 
 module _ (number : Step → ℕ) (steps : List ℕ) where
@@ -64,11 +63,6 @@ module _ (number : Step → ℕ) (steps : List ℕ) where
     pub some_pass : (n : ℕ) → n ≤ rows step_width steps → (ltb 0 n && test (largest_of number steps n)) ≡ some_of n
     some_pass zero within = sym none_yet
     some_pass (suc n) within = rw (lt-ltb 0 (suc n) (omega arith)) (sym (up_to n within))
-
--- after the last step
-pub largest_whole : (steps : List ℕ) (i : ℕ) {contact kind : ℕ} → i ≤ rows step_width steps → rows step_width steps ≤ i
-    → contact ≡ largest_of (λ s. s.contact) steps i → kind ≡ largest_of (λ s. s.kind) steps i → record { contact = contact; kind = kind } ≡ largest steps
-largest_whole steps i h l e f = let q : i ≡ rows step_width steps = omega arith in rw (← q, ← e, ← f)
 
 module _ (contacts : ℕ) (steps : List ℕ) {most : Most} (e : most ≡ largest steps) where
   -- 2: some step names a contact that is not there

@@ -8,8 +8,6 @@ use Rattle.base_rows.specs.Rows.{rows}
 use Rattle.list_tables.specs.declared.Step.{Step}
 use Rattle.base_order.specs.OneByOne.{any}
 use Rattle.list_rules.specs.Sweep.{Tables, first_steps}
-use Rattle.list_checks.specs.declared.Fault.{Fault}
-use Rattle.list_checks.specs.declared.Fault.TheVariants.{NoContact, KindAbove}
 
 -- 1: a library size above is exceeded: at most 4,096 bodies, 16,384 contacts and 65,536 steps ..
 unfoldable pub too_many : Tables → List ℕ → Bool
@@ -27,6 +25,10 @@ unfoldable pub wrong_sizes : Tables → List ℕ → List ℕ → Bool
 wrong_sizes t steps room = too_many t steps || some_uneven t steps room || not (eqb (rows numbers_width t.numbers) (rows floats_width t.floats))
 
 -- 2: some step names a contact not in the contact table; 3: some kind is above 4
+pub data Fault : Type 0 where
+  NoContact : Fault
+  KindAbove : Fault
+
 unfoldable pub faulty : Fault → ℕ → Step → Bool
 faulty NoContact contacts s = not (ltb s.contact contacts)
 faulty KindAbove contacts s = kind_above s.kind

@@ -1,7 +1,8 @@
 // Numbers 1 to 4, which refuse a whole call: they look at all that is lent, before any step.
 #![tactic(auto)]
 
-ghost use Rattle.std.specs.Prelude.{max, ◌≡◌};
+ghost use Rattle.std.specs.Prelude.{◌≡◌};
+ghost use Rattle.base_refusals.specs.Numbers.{number_told};
 ghost use Rattle.base_refusals.specs.Refusals.{first};
 ghost use Rattle.list_rules.specs.Sweep.{tables};
 ghost use Rattle.list_checks.specs.Checks.{some_uneven, too_many, whole_call, wrong_sizes};
@@ -11,15 +12,9 @@ use base_places::{
     ANSWER_WIDTH, BODY_WIDTH, FLOATS_WIDTH, MOST_BODIES, MOST_CONTACTS, MOST_STEPS, NUMBERS_WIDTH,
     STEP_WIDTH,
 };
+use base_refusals::Refusal;
 use list_tables::step_at;
 use step_shape::kind_above;
-
-// What is wrong with a step of a list, so that the whole list is refused.
-#[derive(Clone, Copy)]
-pub enum Fault {
-    NoContact,
-    KindAbove,
-}
 
 // The largest contact number and the largest kind of a list; 0 and 0 where it is empty.
 #[derive(Clone, Copy)]
@@ -56,56 +51,47 @@ fn wrong_sizes(bodies: &[f32], numbers: &[u16], floats: &[f32], steps: &[u16], r
         | differ
 }
 
-// The larger of two numbers.
-fn larger(a: u16, b: u16) -> u16
-    ensures { result ≡ max a b }
-{
-    if a < b { b } else { a }
-}
-
 // One walk over the list for 2 and 3, without a way out, so that the compiler makes vectors of it.
 fn largest(steps: &[u16]) -> Most
     ensures { result ≡ largest steps.now }
 {
     let n = steps.len() / STEP_WIDTH;
-    let mut contact = 0;
-    let mut kind = 0;
-    let mut i = 0;
-    while i < n {
+    let mut contact = 0u16;
+    let mut kind = 0u16;
+    for i in 0..n {
         let s = step_at(steps, i);
-        contact = larger(contact, s.contact);
-        kind = larger(kind, s.kind);
-        i += 1;
+        contact = contact.max(s.contact);
+        kind = kind.max(s.kind);
     }
     Most { contact, kind }
 }
 
-// The number that refuses the call, or 0.
+// What refuses the call, if anything does.
 pub fn whole_call(
     bodies: &[f32],
     numbers: &[u16],
     floats: &[f32],
     steps: &[u16],
     room: &[u16],
-) -> u16
-    ensures { result ≡ first (whole_call (tables bodies.now numbers.now floats.now) steps.now room.now) }
+) -> Result<(), Refusal>
+    ensures { number_told result ≡ first (whole_call (tables bodies.now numbers.now floats.now) steps.now room.now) }
 {
     let contacts = floats.len() / FLOATS_WIDTH;
     if wrong_sizes(bodies, numbers, floats, steps, room) {
-        return 1;
+        return Err(Refusal::WrongSizes);
     }
     let most = largest(steps);
     let some = 0 < steps.len() / STEP_WIDTH;
     let no_contact = some & !((most.contact as usize) < contacts);
     let no_kind = some & kind_above(most.kind);
     if no_contact {
-        return 2;
+        return Err(Refusal::NoContact);
     }
     if no_kind {
-        return 3;
+        return Err(Refusal::KindAbove);
     }
     if room.len() / ANSWER_WIDTH < steps.len() / STEP_WIDTH {
-        return 4;
+        return Err(Refusal::NoRoom);
     }
-    0
+    Ok(())
 }

@@ -14,7 +14,6 @@ use Rattle.elem_impulse.proofs.Pushing.{carried, pushed_on}
 use Rattle.step_contact.specs.Places.{Place, number}
 use Rattle.step_contact.specs.declared.Contact.{Contact}
 use Rattle.step_kinds.specs.declared.ContactSolved.{ContactSolved}
-use Rattle.step_rules.specs.declared.Outcome.TheVariants.{Done}
 use Rattle.step_promises.specs.Pushing.{AllPush}
 use Rattle.step_promises.proofs.Promises.{same_head_kept}
 use Rattle.step_promises.proofs.Pushing.{done_loads, done_pushes}
@@ -27,6 +26,7 @@ use Rattle.list_rules.proofs.Rows.{after_floats, floats_as_many}
 use Rattle.list_readback.specs.ReadBack.{Own}
 use Rattle.list_readback.proofs.ReadBack.{contact_read_back, each_contact}
 use Rattle.list_pushing.specs.Pushing.{AllLoads, ListsPush, StaySo, load_at}
+use Rattle.step_rules.specs.Step.{Done}
 
 -- what may become of a contact
 pub record Changed (old new : Contact) : Type 0 where

@@ -17,10 +17,8 @@ use Rattle.step_kinds.specs.Table.{stores}
 use Rattle.step_kinds.specs.Stored.{stored}
 use Rattle.step_kinds.specs.declared.ContactSolved.{ContactSolved}
 use Rattle.step_shape.proofs.Bodies.{RightBodies, in_table, right_bodies}
-use Rattle.step_rules.specs.Step.{step}
+use Rattle.step_rules.specs.Step.{Done, Outcome, Refused, step}
 use Rattle.step_rules.proofs.Chain.{not_both}
-use Rattle.step_rules.specs.declared.Outcome.{Outcome}
-use Rattle.step_rules.specs.declared.Outcome.TheVariants.{Done, Refused}
 use Rattle.step_promises.specs.Promises.{FloorSides}
 use Rattle.step_promises.proofs.Promises.{bodies_passed, floor_kept, same_head_kept, untouched}
 use Rattle.base_rows.specs.Rows.{read_row, row, rows}

@@ -3,10 +3,10 @@
 use Rattle.std.specs.Prelude.{ℕ, ◌⊎◌, ◌≡◌}
 use Rattle.step_contact.specs.declared.Contact.{Contact}
 use Rattle.step_kinds.specs.declared.ContactSolved.{ContactSolved}
-use Rattle.step_rules.specs.declared.Outcome.TheVariants.{Done}
 use Rattle.list_tables.specs.Tables.{contact_at}
 use Rattle.list_tables.specs.declared.Step.{Step}
 use Rattle.list_rules.specs.Sweep.{Tables, its_contact, outcome, step_on, vels_at}
+use Rattle.step_rules.specs.Step.{Done}
 
 -- the step's contact, with its new impulses
 abbrev pub ContactReadBack : Type 0

@@ -9,9 +9,7 @@ use Rattle.base_words.specs.Choice.{if◌then◌otherwise◌}
 use Rattle.base_places.specs.Places.{body_width, floats_width}
 use Rattle.base_rows.specs.Rows.{rows}
 use Rattle.step_kinds.specs.declared.ContactSolved.{ContactSolved}
-use Rattle.step_rules.specs.Step.{step}
-use Rattle.step_rules.specs.declared.Outcome.{Outcome}
-use Rattle.step_rules.specs.declared.Outcome.TheVariants.{Done, Refused}
+use Rattle.step_rules.specs.Step.{Done, Outcome, Refused, step}
 use Rattle.step_promises.proofs.Promises.{refused_number}
 use Rattle.list_tables.specs.declared.Step.{Step}
 use Rattle.list_rules.specs.Sweep.{Tables, answered, if_there, its_contact, outcome, step_on, vels_at}

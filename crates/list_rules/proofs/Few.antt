@@ -15,9 +15,7 @@ use Rattle.base_refusals.specs.Refusals.{Condition, first}
 use Rattle.base_rows.specs.Rows.{row, rows}
 use Rattle.base_rows.proofs.Parts.{part_at}
 use Rattle.step_contact.specs.declared.Contact.{Contact}
-use Rattle.step_rules.specs.Step.{asked, branch, checks, conditions, step}
-use Rattle.step_rules.specs.declared.Outcome.{Outcome}
-use Rattle.step_rules.specs.declared.Outcome.TheVariants.{Refused}
+use Rattle.step_rules.specs.Step.{Outcome, Refused, asked, branch, checks, conditions, step}
 use Rattle.step_promises.proofs.Promises.{few_branches}
 use Rattle.list_cells.specs.Cells.{answer_row}
 use Rattle.list_tables.specs.declared.Step.{Step}

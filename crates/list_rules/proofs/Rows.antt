@@ -9,9 +9,7 @@ use Rattle.base_places.specs.Places.{body_width, floats_width}
 use Rattle.step_contact.specs.Contact.{is_floor}
 use Rattle.step_contact.specs.declared.ContactHead.{ContactHead}
 use Rattle.step_kinds.specs.declared.ContactSolved.{ContactSolved}
-use Rattle.step_rules.specs.Step.{step}
-use Rattle.step_rules.specs.declared.Outcome.{Outcome}
-use Rattle.step_rules.specs.declared.Outcome.TheVariants.{Refused, Done}
+use Rattle.step_rules.specs.Step.{Done, Outcome, Refused, step}
 use Rattle.base_rows.specs.Rows.{row, rows}
 use Rattle.list_tables.specs.declared.Step.{Step}
 use Rattle.list_cells.specs.Cells.{put_vel}

@@ -10,9 +10,7 @@ use Rattle.base_places.specs.Places.{body_width, floats_width}
 use Rattle.base_words.specs.Choice.{if◌then◌otherwise◌}
 use Rattle.step_contact.specs.declared.ContactHead.{ContactHead}
 use Rattle.step_kinds.specs.declared.ContactSolved.{ContactSolved}
-use Rattle.step_rules.specs.Step.{answer, step}
-use Rattle.step_rules.specs.declared.Outcome.{Outcome}
-use Rattle.step_rules.specs.declared.Outcome.TheVariants.{Refused, Done}
+use Rattle.step_rules.specs.Step.{Done, Outcome, Refused, answer, step}
 use Rattle.base_rows.specs.Rows.{rows}
 use Rattle.list_cells.specs.Cells.{put_impulses, put_vel}
 use Rattle.list_tables.specs.declared.Step.{Step}

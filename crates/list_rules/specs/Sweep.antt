@@ -6,9 +6,7 @@ use Rattle.elem_velocity.specs.declared.Vels.{Vels}
 use Rattle.step_contact.specs.declared.Contact.{Contact}
 use Rattle.step_contact.specs.declared.ContactHead.{ContactHead}
 use Rattle.base_refusals.specs.Refusals.{Condition, ◌when◌}
-use Rattle.step_rules.specs.Step.{answer, as_read, branch, conditions, step}
-use Rattle.step_rules.specs.declared.Outcome.{Outcome}
-use Rattle.step_rules.specs.declared.Outcome.TheVariants.{Refused, Done}
+use Rattle.step_rules.specs.Step.{Done, Outcome, Refused, answer, as_read, branch, conditions, step}
 use Rattle.base_rows.specs.Rows.{rows}
 use Rattle.list_tables.specs.Tables.{contact_at, step_at, vel_at}
 use Rattle.list_cells.specs.Cells.{put_answer, put_impulses, put_vel}

@@ -10,7 +10,6 @@ use Rattle.step_contact.specs.Contact.{contact_zero}
 use Rattle.step_contact.proofs.Zeros.{zero_bodies}
 use Rattle.step_kinds.specs.declared.ContactSolved.{ContactSolved}
 use Rattle.step_shape.proofs.Bodies.{with_itself}
-use Rattle.step_rules.specs.declared.Outcome.TheVariants.{Done}
 use Rattle.step_promises.proofs.Promises.{bodies_passed}
 use Rattle.base_rows.specs.Rows.{row, rows}
 use Rattle.list_tables.specs.Tables.{contact_at}
@@ -20,6 +19,7 @@ use Rattle.list_tables.proofs.Floats.{body_numbers}
 use Rattle.list_rules.specs.Sweep.{Tables, its_contact, outcome, vels_at}
 use Rattle.list_rules.proofs.Done.{done_there, its_contact_lem}
 use Rattle.list_sharing.specs.Sharing.{There}
+use Rattle.step_rules.specs.Step.{Done}
 
 not_lt : (a b : ℕ) → ¬ (a < b) → b ≤ a
 not_lt a b n = omega (arith, n)

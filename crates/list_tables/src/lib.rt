@@ -189,5 +189,5 @@ pub fn steps_among(steps: &[u16], n: usize) -> usize
     ensures { result ≡ min n (rows step_width steps.now) }
 {
     let all = steps.len() / STEP_WIDTH;
-    if n <= all { n } else { all }
+    n.min(all)
 }

@@ -11,6 +11,7 @@ use plain_step::step;
 use std::io;
 use std::io::Write;
 use step_contact::{Contact, ContactHead, ContactPoint, FLOOR};
+use step_rules::{answer, branch};
 
 const ROWS: usize = 2;
 
@@ -121,8 +122,8 @@ fn show<W: Write>(
     vels: Vels,
 ) -> io::Result<()> {
     let outcome = step(contact, kind, vels, ROWS);
-    let answer = outcome.answer();
-    let branch = outcome.branch();
+    let answer = answer(outcome);
+    let branch = branch(outcome);
     writeln!(to, "{what}\t{answer}\t{branch}")
 }
 
@@ -142,11 +143,7 @@ fn put_if<W: Write>(to: &mut W, wrong: bool, what: &str) -> io::Result<()> {
     Ok(())
 }
 
-fn choose(wrong: bool, right: f32, other: f32) -> f32 {
-    if wrong { other } else { right }
-}
-
-fn choose_number(wrong: bool, right: u16, other: u16) -> u16 {
+fn choose<T: Copy>(wrong: bool, right: T, other: T) -> T {
     if wrong { other } else { right }
 }
 
@@ -159,8 +156,8 @@ fn choice<W: Write>(to: &mut W, n: u16) -> io::Result<()> {
     let broken = n / 4 % 2 == 1;
     let pulls = n / 2 % 2 == 1;
     let hard = n % 2 == 1;
-    let bodies = with_bodies(on_floor(), choose_number(nowhere, 0, 2), FLOOR);
-    let counted = with_count(bodies, choose_number(three, 1, 3));
+    let bodies = with_bodies(on_floor(), choose(nowhere, 0, 2), FLOOR);
+    let counted = with_count(bodies, choose(three, 1, 3));
     let rubbing = with_friction(counted, choose(broken, 0.0, nan()));
     let pushed = with_impulse(rubbing, choose(pulls, 0.0, -1.0));
     let contact = with_r(pushed, choose(hard, 1.0, 2.0));

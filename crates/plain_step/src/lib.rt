@@ -8,9 +8,10 @@ ghost use Rattle.std.specs.Prelude.{◌≡◌, [], ◌∷◌};
 ghost use Rattle.step_kinds.specs.Table.{routine};
 ghost use Rattle.step_values.specs.Values.{unwritable};
 ghost use Rattle.base_refusals.specs.Refusals.{◌when◌};
-ghost use Rattle.step_rules.specs.Step.{as_read, as_written, first_or, reads, step};
+ghost use Rattle.step_rules.specs.Step.{Done, as_read, as_written, first_or, outcome_of, reads, step};
 ghost use Rattle.step_rules.specs.Step.{tried, writes, written_vels};
 
+use base_refusals::Refusal;
 use elem_velocity::{SolverVel, Vels};
 use step_contact::{Contact, ContactHead, FLOOR};
 use step_kinds::{ContactSolved, routine};
@@ -62,58 +63,50 @@ fn written_vels(head: ContactHead, old: Vels, new: Vels) -> Vels
     }
 }
 
-fn as_written(head: ContactHead, old: Vels, outcome: Outcome) -> Outcome
-    ensures { result ≡ as_written head old outcome }
+// A done step, with what is given for the floor as it was.
+fn as_written(head: ContactHead, old: Vels, solved: ContactSolved) -> ContactSolved
+    ensures { Done result ≡ as_written head old (Done solved) }
 {
-    match outcome {
-        Outcome::Refused(number) => Outcome::Refused(number),
-        Outcome::Done(solved) => {
-            let branch = solved.branch;
-            let contact = solved.contact;
-            let new = solved.vels;
-            let vels = written_vels(head, old, new);
-            Outcome::Done(ContactSolved {
-                branch,
-                contact,
-                vels,
-            })
-        }
+    let new = solved.vels;
+    ContactSolved {
+        vels: written_vels(head, old, new),
+        ..solved
     }
 }
 
 // The routine's result, unless it cannot be written.
 fn worked(contact: Contact, kind: u16, vels: Vels) -> Outcome
-    ensures { result ≡ first_or (10 when unwritable kind (routine kind contact vels) ∷ []) (routine kind contact vels) }
+    ensures { outcome_of result ≡ first_or (10 when unwritable kind (routine kind contact vels) ∷ []) (routine kind contact vels) }
 {
     let solved = routine(contact, kind, vels);
     if unwritable(kind, solved) {
-        return Outcome::Refused(10);
+        return Err(Refusal::Unwritable);
     }
-    Outcome::Done(solved)
+    Ok(solved)
 }
 
 // A step with the velocities as they read.
 fn tried(contact: Contact, kind: u16, vels: Vels, rows: usize) -> Outcome
-    ensures { result ≡ tried contact kind vels rows }
+    ensures { outcome_of result ≡ tried contact kind vels rows }
 {
     let head = contact.head;
     if kind_above(kind) {
-        return Outcome::Refused(3);
+        return Err(Refusal::KindAbove);
     }
     if wrong_bodies(head, rows) {
-        return Outcome::Refused(5);
+        return Err(Refusal::WrongBodies);
     }
     if wrong_count(head) {
-        return Outcome::Refused(6);
+        return Err(Refusal::WrongCount);
     }
     if pair_of_one(kind, head) {
-        return Outcome::Refused(7);
+        return Err(Refusal::PairOfOne);
     }
     if not_finite(contact) | not_finite_vels(vels) {
-        return Outcome::Refused(8);
+        return Err(Refusal::NotFinite);
     }
     if out_of_range(contact) {
-        return Outcome::Refused(9);
+        return Err(Refusal::OutOfRange);
     }
     worked(contact, kind, vels)
 }
@@ -121,9 +114,9 @@ fn tried(contact: Contact, kind: u16, vels: Vels, rows: usize) -> Outcome
 // One step of a kind; rows is how many bodies the table has. What is given for the floor is neither
 // read nor changed.
 pub fn step(contact: Contact, kind: u16, vels: Vels, rows: usize) -> Outcome
-    ensures { result ≡ step contact kind vels rows }
+    ensures { outcome_of result ≡ step contact kind vels rows }
 {
     let head = contact.head;
-    let outcome = tried(contact, kind, as_read(head, vels), rows);
-    as_written(head, vels, outcome)
+    let solved = tried(contact, kind, as_read(head, vels), rows)?;
+    Ok(as_written(head, vels, solved))
 }

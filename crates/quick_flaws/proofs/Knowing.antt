@@ -14,9 +14,7 @@ use Rattle.elem_velocity.specs.declared.Vels.{Vels}
 use Rattle.step_contact.specs.declared.Contact.{Contact}
 use Rattle.step_kinds.specs.Table.{routine}
 use Rattle.step_kinds.specs.declared.ContactSolved.{ContactSolved}
-use Rattle.step_rules.specs.Step.{Check, Looks, ◌looks◌, asked, at_both, at_contact, at_step, checks, conditions, first_or, holds_of, tried}
-use Rattle.step_rules.specs.declared.Outcome.{Outcome}
-use Rattle.step_rules.specs.declared.Outcome.TheVariants.{Refused}
+use Rattle.step_rules.specs.Step.{Check, Looks, Outcome, Refused, asked, at_both, at_contact, at_step, checks, conditions, first_or, holds_of, ◌looks◌, tried}
 use Rattle.step_promises.proofs.Promises.{distinct_numbers}
 use Rattle.quick_flaws.specs.Flaws.{asked_knowing, flaw, half_at, holds_knowing, of_contact, tried_knowing}
 

@@ -7,9 +7,7 @@ use Rattle.step_contact.specs.declared.Contact.{Contact}
 use Rattle.step_kinds.specs.Table.{routine}
 use Rattle.step_kinds.specs.declared.ContactSolved.{ContactSolved}
 use Rattle.base_refusals.specs.Refusals.{Condition, ◌when◌, first}
-use Rattle.step_rules.specs.Step.{Check, Looks, at_both, at_contact, at_step, checks, first_or, step}
-use Rattle.step_rules.specs.declared.Outcome.{Outcome}
-use Rattle.step_rules.specs.declared.Outcome.TheVariants.{Done}
+use Rattle.step_rules.specs.Step.{Check, Done, Looks, Outcome, at_both, at_contact, at_step, checks, first_or, step}
 
 -- number n's condition as far as it looks at the contact alone, before the later ones
 unfoldable pub half_at : ℕ → Looks → Contact → ℕ → List Condition → List Condition

@@ -3,10 +3,12 @@
 #![tactic(auto)]
 
 ghost use Rattle.std.specs.Prelude.{◌≡◌, false};
+ghost use Rattle.base_refusals.specs.Numbers.{number_of};
 ghost use Rattle.step_shape.specs.Shape.{wrong_count};
 ghost use Rattle.step_values.specs.Values.{floor_moves, head_out, not_finite, out_of_range, point_out};
 ghost use Rattle.quick_flaws.specs.Flaws.{flaw};
 
+use base_refusals::Refusal;
 use step_contact::{Contact, ContactHead, ContactPoint, FLOOR};
 use step_shape::{wrong_bodies, wrong_count};
 use step_values::{finite_head, finite_point};
@@ -99,22 +101,22 @@ fn out_of_range_by_turns(contact: Contact) -> bool
     false
 }
 
-// What is wrong with a contact, by its number, or 0; rows is how many bodies the table has.
-pub fn flaw(contact: Contact, rows: usize) -> u16
-    ensures { result ≡ flaw rows contact }
+// What is wrong with a contact, if anything is; rows is how many bodies the table has.
+pub fn flaw(contact: Contact, rows: usize) -> Option<Refusal>
+    ensures { number_of result ≡ flaw rows contact }
 {
     let head = contact.head;
     if wrong_bodies(head, rows) {
-        return 5;
+        return Some(Refusal::WrongBodies);
     }
     if wrong_count(head) {
-        return 6;
+        return Some(Refusal::WrongCount);
     }
     if not_finite_by_turns(contact) {
-        return 8;
+        return Some(Refusal::NotFinite);
     }
     if out_of_range_by_turns(contact) {
-        return 9;
+        return Some(Refusal::OutOfRange);
     }
-    0
+    None
 }

@@ -14,9 +14,7 @@ use Rattle.elem_velocity.specs.declared.Vels.{Vels}
 use Rattle.step_contact.specs.Contact.{is_floor}
 use Rattle.step_contact.specs.declared.Contact.{Contact}
 use Rattle.step_contact.specs.declared.ContactHead.{ContactHead}
-use Rattle.step_rules.specs.Step.{as_read, as_written, reads, step, tried, writes, written_vels}
-use Rattle.step_rules.specs.declared.Outcome.{Outcome}
-use Rattle.step_rules.specs.declared.Outcome.TheVariants.{Refused, Done}
+use Rattle.step_rules.specs.Step.{Done, Outcome, Refused, as_read, as_written, reads, step, tried, writes, written_vels}
 use Rattle.base_rows.specs.Rows.{rows}
 use Rattle.list_tables.specs.Tables.{contact_at, vel_at}
 use Rattle.list_tables.specs.declared.Step.{Step}

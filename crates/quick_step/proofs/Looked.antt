@@ -12,16 +12,20 @@ use Rattle.base_places.specs.Places.{body_width, floats_width}
 use Rattle.base_words.specs.Choice.{if◌then◌otherwise◌}
 use Rattle.base_words.proofs.Pick.{never, pass, take}
 use Rattle.base_words.proofs.Said.{all_l, all_r, none_l, none_r, not_so}
+use Rattle.std.proofs.Common.{Option}
+use Rattle.std.specs.Option.{is_some}
+use Rattle.base_refusals.proofs.Told.{by_number, is, none_told}
+use Rattle.base_refusals.specs.Numbers.{number_of}
 use Rattle.base_refusals.specs.Refusals.{Condition, ◌when◌, first}
+use Rattle.base_refusals.specs.declared.Refusal.{Refusal}
+use Rattle.base_refusals.specs.declared.Refusal.TheVariants.{NotFinite, WrongBodies, WrongCount}
 use Rattle.elem_velocity.specs.declared.Vels.{Vels}
 use Rattle.step_contact.specs.declared.Contact.{Contact}
 use Rattle.step_kinds.specs.declared.ContactSolved.{ContactSolved}
 use Rattle.step_shape.specs.Shape.{kind_above, pair_of_one, wrong_bodies, wrong_count}
 use Rattle.step_values.specs.Values.{not_finite, not_finite_vels, out_of_range}
 use Rattle.step_rules.proofs.Chain.{hit, miss}
-use Rattle.step_rules.specs.Step.{checks, first_or}
-use Rattle.step_rules.specs.declared.Outcome.{Outcome}
-use Rattle.step_rules.specs.declared.Outcome.TheVariants.{Refused}
+use Rattle.step_rules.specs.Step.{Outcome, Refused, checks, first_or}
 use Rattle.base_rows.specs.Rows.{rows}
 use Rattle.list_tables.specs.declared.Step.{Step}
 use Rattle.list_rules.specs.Sweep.{Tables, if_there, tables, vels_at}
@@ -73,46 +77,54 @@ some_flaw a lost e f = by_case a lost f e
     by_case true true f e = f
     by_case false lost f e = refl
 
-module _ (bodies : List Float) (numbers : List ℕ) (floats : List Float) (s : Step) {d : Contact} {f : ℕ} {v : Vels} {lost : Bool}
-    (read : d ≡ its bodies numbers floats s) (found : f ≡ flaw (rows body_width bodies) d) (moving : v ≡ vels_at bodies d.head) (told : lost ≡ not_finite_vels v) where
+module _ (bodies : List Float) (numbers : List ℕ) (floats : List Float) (s : Step) (found : Option Refusal) {d : Contact} {v : Vels} {lost : Bool}
+    (read : d ≡ its bodies numbers floats s) (flawed : number_of found ≡ flaw (rows body_width bodies) d) (moving : v ≡ vels_at bodies d.head) (told : lost ≡ not_finite_vels v) where
   abbrev t : Tables
   t = tables bodies numbers floats
 
+  abbrev f : ℕ
+  f = number_of found
+
   is_flaw : f ≡ flaw (rows body_width bodies) (its bodies numbers floats s)
-  is_flaw = found ∙ ap (flaw (rows body_width bodies)) read
+  is_flaw = flawed ∙ ap (flaw (rows body_width bodies)) read
 
   is_lost : lost ≡ not_finite_vels (vels bodies numbers floats s)
   is_lost = cc
 
-  pub is_trusted : (eqb f 0 && not lost) ≡ true → Looked s t 0
+  pub is_trusted : (none : Bool) → is_some found ≡ not none → (none && not lost) ≡ true → Looked s t 0
   unfolding vouched
-  is_trusted e = record {
-    trusted = λ _. record { sound = rw (← is_flaw) (all_l (eqb f 0) (not lost) e); moving = sym is_lost ∙ not_so lost (all_r (eqb f 0) (not lost) e) };
-    only = λ _. refl;
-    turned = λ none. absurd (none refl);
-  }
+  is_trusted none n e =
+      let no_flaw : eqb f 0 ≡ true = sym (none_told found n) ∙ all_l none (not lost) e in
+      record {
+        trusted = λ _. record { sound = rw (← is_flaw) no_flaw; moving = sym is_lost ∙ not_so lost (all_r none (not lost) e) };
+        only = λ _. refl;
+        turned = λ none. absurd (none refl);
+      }
 
-  module _ (not_both : (eqb f 0 && not lost) ≡ false) where
+  module _ (none : Bool) (n : is_some found ≡ not none) (not_both : (none && not lost) ≡ false) where
     -- where something was found the contact is not trusted
+    not_either : (eqb f 0 && not lost) ≡ false
+    not_either = ap (λ (b : Bool). b && not lost) (sym (none_told found n)) ∙ not_both
+
     untrusted : Trusted t s.contact → ⊥
     unfolding vouched
     untrusted trust =
         let none : eqb f 0 ≡ true = rw is_flaw trust.sound in
         let moves : lost ≡ false = is_lost ∙ trust.moving in
-        never (sym (rw (none, moves) refl) ∙ not_both)
+        never (sym (rw (none, moves) refl) ∙ not_either)
 
-    by_number : (n : ℕ) → (n ≡ 0 → ⊥) → Refused n ≡ raw bodies numbers floats s → Looked s t n
-    by_number n some e = record { trusted = λ none. absurd (some none); only = λ trust. absurd (untrusted trust); turned = λ _. away bodies numbers floats s n e }
+    turned_by : (n : ℕ) → (n ≡ 0 → ⊥) → Refused n ≡ raw bodies numbers floats s → Looked s t n
+    turned_by n some e = record { trusted = λ none. absurd (some none); only = λ trust. absurd (untrusted trust); turned = λ _. away bodies numbers floats s n e }
 
     pub is_missing : rows floats_width floats ≤ s.contact → Looked s t 2
     unfolding if_there
-    is_missing past = by_number 2 (λ e. omega arith) (pass _ (le-ltb _ _ past) refl)
+    is_missing past = turned_by 2 (λ e. omega arith) (pass _ (le-ltb _ _ past) refl)
 
     module _ (there : s.contact < rows floats_width floats) {above : Bool} (e3 : above ≡ kind_above s.kind) where
       by_chain : (n : ℕ) → (n ≡ 0 → ⊥) → Refused n ≡ tried_knowing (its bodies numbers floats s) s.kind (vels bodies numbers floats s) f → Looked s t n
       unfolding if_there
       by_chain n some e =
-          by_number n some
+          turned_by n some
           (take _ (lt-ltb _ _ there) (e ∙ ap (tried_knowing (its bodies numbers floats s) s.kind (vels bodies numbers floats s)) is_flaw
           ∙ judged_by_flaw (rows body_width bodies) (its bodies numbers floats s) s.kind (vels bodies numbers floats s)))
 
@@ -120,17 +132,23 @@ module _ (bodies : List Float) (numbers : List ℕ) (floats : List Float) (s : S
       unfolding tried_knowing asked_knowing checks holds_knowing
       no_such_kind h = by_chain 3 (λ e. omega arith) (hit 3 _ _ e3 h)
 
-      module _ (n3 : above ≡ false) where
-        pub by_flaw : (eqb f 5 || eqb f 6) ≡ true → Looked s t f
+      module _ (n3 : above ≡ false) {five six : Bool} (is5 : five ≡ is found WrongBodies) (is6 : six ≡ is found WrongCount) where
+        by_two : (five || six) ≡ (eqb f 5 || eqb f 6)
+        by_two = rw (is5, is6, by_number found WrongBodies, by_number found WrongCount)
+
+        pub by_flaw : (five || six) ≡ true → Looked s t f
         unfolding tried_knowing asked_knowing checks holds_knowing
-        by_flaw h = by_chain f (by_case (eqb f 5) (eqb f 6) refl refl h) (miss 3 _ _ e3 n3 (one_of_two f _ _ h))
+        by_flaw h = by_chain f (by_case (eqb f 5) (eqb f 6) refl refl (sym by_two ∙ h)) (miss 3 _ _ e3 n3 (one_of_two f _ _ (sym by_two ∙ h)))
           where
             by_case : (five six : Bool) → eqb f 5 ≡ five → eqb f 6 ≡ six → (five || six) ≡ true → f ≡ 0 → ⊥
             by_case true six p q e none = let z : f ≡ 5 = eqb-true f 5 p in omega arith
             by_case false true p q e none = let z : f ≡ 6 = eqb-true f 6 q in omega arith
             by_case false false p q e none = never (sym e)
 
-        module _ (n5 : (eqb f 5 || eqb f 6) ≡ false) {paired : Bool} (e7 : paired ≡ pair_of_one s.kind d.head) where
+        module _ (no5 : (five || six) ≡ false) {paired : Bool} (e7 : paired ≡ pair_of_one s.kind d.head) where
+          n5 : (eqb f 5 || eqb f 6) ≡ false
+          n5 = sym by_two ∙ no5
+
           its_pair : paired ≡ pair_of_one s.kind (its bodies numbers floats s).head
           its_pair = cc
 
@@ -138,20 +156,21 @@ module _ (bodies : List Float) (numbers : List ℕ) (floats : List Float) (s : S
           unfolding tried_knowing asked_knowing checks holds_knowing
           by_pair h = by_chain 7 (λ e. omega arith) (miss 3 _ _ e3 n3 (neither_of_two f _ _ n5 (hit 7 _ _ its_pair h)))
 
-          module _ (n7 : paired ≡ false) where
-            by_eight : (eqb f 8 || lost) ≡ (eqb f 8 || not_finite_vels (vels bodies numbers floats s))
-            by_eight = ap (λ (b : Bool). eqb f 8 || b) is_lost
+          module _ (n7 : paired ≡ false) {eight : Bool} (is8 : eight ≡ is found NotFinite) where
+            by_eight : (eight || lost) ≡ (eqb f 8 || not_finite_vels (vels bodies numbers floats s))
+            by_eight = rw (is8, by_number found NotFinite) (ap (λ (b : Bool). eqb f 8 || b) is_lost)
 
-            pub by_loss : (eqb f 8 || lost) ≡ true → Looked s t 8
+            pub by_loss : (eight || lost) ≡ true → Looked s t 8
             unfolding tried_knowing asked_knowing checks holds_knowing
             by_loss h = by_chain 8 (λ e. omega arith) (miss 3 _ _ e3 n3 (neither_of_two f _ _ n5 (miss 7 _ _ its_pair n7 (hit 8 _ _ by_eight h))))
 
-            pub by_range : (eqb f 8 || lost) ≡ false → Looked s t 9
+            pub by_range : (eight || lost) ≡ false → Looked s t 9
             unfolding tried_knowing asked_knowing checks holds_knowing
             by_range n8 =
+                let not_eight : eqb f 8 ≡ false = sym (is8 ∙ by_number found NotFinite) ∙ none_l eight lost n8 in
                 let nine : eqb f 9 ≡ true =
-                ap (λ (n : ℕ). eqb n 9) found
-                ∙ last_flaw (rows body_width bodies) d (ap (λ (n : ℕ). eqb n 0) (sym found) ∙ some_flaw (eqb f 0) lost not_both (none_r (eqb f 8) lost n8))
-                (ap (λ (n : ℕ). eqb n 5 || eqb n 6) (sym found) ∙ n5) (ap (λ (n : ℕ). eqb n 8) (sym found) ∙ none_l (eqb f 8) lost n8) in
+                ap (λ (n : ℕ). eqb n 9) flawed
+                ∙ last_flaw (rows body_width bodies) d (ap (λ (n : ℕ). eqb n 0) (sym flawed) ∙ some_flaw (eqb f 0) lost not_either (none_r eight lost n8))
+                (ap (λ (n : ℕ). eqb n 5 || eqb n 6) (sym flawed) ∙ n5) (ap (λ (n : ℕ). eqb n 8) (sym flawed) ∙ not_eight) in
                 by_chain 9 (λ e. omega arith)
                 (miss 3 _ _ e3 n3 (neither_of_two f _ _ n5 (miss 7 _ _ its_pair n7 (miss 8 _ _ by_eight n8 (hit 9 _ _ refl nine)))))

@@ -19,10 +19,10 @@ use Rattle.step_kinds.specs.declared.ContactSolved.{ContactSolved}
 use Rattle.step_shape.specs.Shape.{kind_above, pair_of_one, wrong_bodies}
 use Rattle.step_values.specs.Values.{not_finite_vels}
 use Rattle.step_rules.proofs.Chain.{hit, miss}
-use Rattle.step_rules.specs.Step.{first_or, tried}
-use Rattle.step_rules.specs.declared.Outcome.TheVariants.{Refused}
+use Rattle.step_rules.specs.Step.{Refused, first_or, tried}
 use Rattle.list_cells.specs.declared.Answer.{Answer}
-use Rattle.list_rules.specs.Sweep.{if_there, new_bodies, step_on, tables, vels_at}
+use Rattle.base_order.specs.OneByOne.{Stepped}
+use Rattle.list_rules.specs.Sweep.{Tables, if_there, new_bodies, step_on, tables, vels_at}
 use Rattle.list_tables.specs.Tables.{contact_at}
 use Rattle.list_tables.specs.declared.Step.{Step}
 use Rattle.quick_tested.proofs.Quick.{quick_step}
@@ -110,3 +110,8 @@ module _ (bodies : List Float) (numbers : List ℕ) (floats : List Float) (s : S
       → ((h : ContactHead) → pair_of_one n h ≡ false) → c ≡ mine → d ≡ mine → v ≡ vels_at bodies c.head → m ≡ routine n d v
       → Left m s.contact s.kind bodies floats a b l → record { answer = a; after = tables b numbers l } ≡ step_on s (tables bodies numbers floats)
   by_kind_of_one n {c} e known one read = by_kind n e known read refl (ap (λ (k : ℕ). pair_of_one k c.head) e ∙ one c.head)
+
+-- numbers that stay as they were
+pub same_numbers : {b l : List Float} {numbers numbers' : List ℕ} {a : Answer} {x : Stepped Answer Tables} → numbers' ≡ numbers
+    → record { answer = a; after = tables b numbers l } ≡ x → record { answer = a; after = tables b numbers' l } ≡ x
+same_numbers e p = rw e p

@@ -6,14 +6,24 @@ use Rattle.base_places.specs.Places.{body_width}
 use Rattle.base_refusals.specs.Refusals.{◌when◌}
 use Rattle.base_rows.specs.Rows.{rows}
 use Rattle.step_kinds.specs.declared.ContactSolved.{ContactSolved}
-use Rattle.step_rules.specs.Step.{first_or}
-use Rattle.step_rules.specs.declared.Outcome.{Outcome}
+use Rattle.step_rules.specs.Step.{Outcome, first_or}
 use Rattle.step_values.specs.Values.{not_finite_vels}
 use Rattle.list_cells.specs.declared.Answer.{Answer}
-use Rattle.list_rules.specs.Sweep.{Tables, answered, new_bodies, new_floats, step_on, vels_at}
+use Rattle.list_rules.specs.Sweep.{Tables, answered, new_bodies, new_floats, step_on, tables, vels_at}
 use Rattle.list_tables.specs.Tables.{contact_at, step_as}
 use Rattle.list_tables.specs.declared.Step.{Step}
 use Rattle.quick_flaws.specs.Flaws.{vouched}
+use Rattle.quick_step.specs.declared.Lent.{Lent}
+
+-- the tables that are lent
+abbrev pub tables_of : Lent → Tables
+tables_of l = tables l.bodies.now l.numbers.now l.floats.now
+
+-- what is lent is lent still: the same stretches, and the same numbers
+pub record StillLent (l l' : Lent) : Type 0 where
+  pub bodies : l'.bodies.ghost_name ≡ l.bodies.ghost_name
+  pub numbers : l'.numbers.now ≡ l.numbers.now
+  pub floats : l'.floats.ghost_name ≡ l.floats.ghost_name
 
 -- contact k, as it stands in the tables now, is without a flaw, and the velocities of its bodies are finite
 pub record Trusted (t : Tables) (k : ℕ) : Type 0 where

@@ -6,13 +6,15 @@
 
 ghost use Rattle.std.specs.Prelude.{◌<◌, false, ◌≡◌};
 ghost use Rattle.base_places.specs.Places.{body_width, floats_width, numbers_width};
+ghost use Rattle.base_refusals.specs.Numbers.{number_of};
 ghost use Rattle.base_rows.specs.Rows.{rows};
 ghost use Rattle.list_tables.specs.Tables.{contact_at};
 ghost use Rattle.step_shape.specs.Shape.{wrong_bodies, wrong_count};
-ghost use Rattle.list_rules.specs.Sweep.{step_on, tables, vels_at};
-ghost use Rattle.quick_step.specs.Trusted.{Left, Looked, Trusted};
+ghost use Rattle.list_rules.specs.Sweep.{step_on, vels_at};
+ghost use Rattle.quick_step.specs.Trusted.{Left, Looked, StillLent, Trusted, tables_of};
 
 use base_places::{BODY_WIDTH, FLOATS_WIDTH};
+use base_refusals::Refusal;
 use elem_velocity::Vels;
 use list_cells::{Answer, put_impulses_in, put_velocity_in};
 use list_tables::{Step, contact_at, contact_in, velocity_at, velocity_in};
@@ -21,6 +23,14 @@ use quick_tested::lost_vels;
 use step_contact::{Contact, ContactHead};
 use step_kinds::{ContactSolved, Rule, over_points, solve_pair, warmstart};
 use step_shape::{kind_above, pair_of_one};
+
+// The body table and the contact table, in two stretches, as the caller lends them.
+#[derive(Drop)]
+pub struct Lent<'a> {
+    pub bodies: &'a mut [f32],
+    pub numbers: &'a [u16],
+    pub floats: &'a mut [f32],
+}
 
 // Copies of the velocities of a contact's bodies, whatever their numbers are.
 fn velocities_at(bodies: &[f32], head: ContactHead) -> Vels
@@ -32,44 +42,44 @@ fn velocities_at(bodies: &[f32], head: ContactHead) -> Vels
     }
 }
 
-// What turns the step away before it is worked, by its number; 0 where its contact is to be trusted.
-pub fn look(bodies: &[f32], numbers: &[u16], floats: &[f32], s: Step) -> u16
-    ensures { Looked s (tables bodies.now numbers.now floats.now) result }
+// What turns the step away before it is worked; nothing where its contact is to be trusted.
+pub fn look(lent: &Lent<'_>, s: Step) -> Option<Refusal>
+    ensures { Looked s (tables_of lent.now) (number_of result) }
 {
     let k = s.contact as usize;
-    let contact = contact_at(numbers, floats, k);
+    let contact = contact_at(lent.numbers, lent.floats, k);
     let head = contact.head;
-    let found = flaw(contact, bodies.len() / BODY_WIDTH);
-    let lost = lost_vels(velocities_at(bodies, head));
-    if (found == 0) & !lost {
-        return 0;
+    let found = flaw(contact, lent.bodies.len() / BODY_WIDTH);
+    let lost = lost_vels(velocities_at(lent.bodies, head));
+    if found.is_none() & !lost {
+        return None;
     }
-    if floats.len() / FLOATS_WIDTH <= k {
-        return 2;
+    if lent.floats.len() / FLOATS_WIDTH <= k {
+        return Some(Refusal::NoContact);
     }
     if kind_above(s.kind) {
-        return 3;
+        return Some(Refusal::KindAbove);
     }
-    if (found == 5) | (found == 6) {
+    if (found == Some(Refusal::WrongBodies)) | (found == Some(Refusal::WrongCount)) {
         return found;
     }
     if pair_of_one(s.kind, head) {
-        return 7;
+        return Some(Refusal::PairOfOne);
     }
-    if (found == 8) | lost {
-        return 8;
+    if (found == Some(Refusal::NotFinite)) | lost {
+        return Some(Refusal::NotFinite);
     }
-    9
+    Some(Refusal::OutOfRange)
 }
 
 // The same copies, of bodies that are there.
-fn velocities_in(bodies: &[f32], head: ContactHead) -> Vels
-    requires { wrong_bodies head (rows body_width bodies.now) ≡ false }
-    ensures { result ≡ vels_at bodies.now head }
+fn velocities_in(lent: &Lent<'_>, head: ContactHead) -> Vels
+    requires { wrong_bodies head (rows body_width lent.now.bodies.now) ≡ false }
+    ensures { result ≡ vels_at lent.now.bodies.now head }
 {
     Vels {
-        v1: velocity_in(bodies, head.body1),
-        v2: velocity_in(bodies, head.body2),
+        v1: velocity_in(lent.bodies, head.body1),
+        v2: velocity_in(lent.bodies, head.body2),
     }
 }
 
@@ -85,13 +95,13 @@ fn one_or_two(count: u16) -> u16
 }
 
 // Contact k, which is there and has one point or two.
-fn its_contact(numbers: &[u16], floats: &[f32], k: usize) -> Contact
-    requires k_bound { k < rows numbers_width numbers.now }
-    requires k_bound_2 { k < rows floats_width floats.now }
-    requires k_value { wrong_count (contact_at numbers.now floats.now k).head ≡ false }
-    ensures { result ≡ contact_at numbers.now floats.now k }
+fn its_contact(lent: &Lent<'_>, k: usize) -> Contact
+    requires k_bound { k < rows numbers_width lent.now.numbers.now }
+    requires k_bound_2 { k < rows floats_width lent.now.floats.now }
+    requires k_value { wrong_count (contact_at lent.now.numbers.now lent.now.floats.now k).head ≡ false }
+    ensures { result ≡ contact_at lent.now.numbers.now lent.now.floats.now k }
 {
-    let read = contact_in(numbers, floats, k);
+    let read = contact_in(lent.numbers, lent.floats, k);
     let mut head = read.head;
     head.count = one_or_two(head.count);
     let a = read.a;
@@ -99,77 +109,67 @@ fn its_contact(numbers: &[u16], floats: &[f32], k: usize) -> Contact
     Contact { head, a, b }
 }
 
-// The answer of a step that is refused.
-fn numbered(number: u16) -> Answer
-    ensures { result ≡ record { number = number; branch = 0 } }
-{
-    Answer { number, branch: 0 }
-}
-
 // What was worked out of contact k is written, all of it, if its velocities are finite; its answer.
-fn kept(
-    bodies: &mut [f32],
-    floats: &mut [f32],
-    k: usize,
-    kind: u16,
-    solved: ContactSolved,
-) -> Answer
-    requires bodies_value { wrong_bodies solved.contact.head (rows body_width bodies.old) ≡ false }
-    requires k_bound { k < rows floats_width floats.old }
-    ensures { Left solved k kind bodies.old floats.old result bodies.new floats.new }
+fn kept(lent: &mut Lent<'_>, k: usize, kind: u16, solved: ContactSolved) -> Answer
+    requires bodies_value { wrong_bodies solved.contact.head (rows body_width lent.old.bodies.now) ≡ false }
+    requires k_bound { k < rows floats_width lent.old.floats.now }
+    ensures left { Left solved k kind lent.old.bodies.now lent.old.floats.now result lent.new.bodies.now lent.new.floats.now }
+    ensures still_lent { StillLent lent.old lent.new }
 {
     let after = solved.vels;
     if lost_vels(after) {
-        return numbered(10);
+        return Answer::from(Refusal::Unwritable);
     }
     let contact = solved.contact;
     let head = contact.head;
     let v1 = after.v1;
     let v2 = after.v2;
-    put_velocity_in(bodies, head.body1, v1);
-    put_velocity_in(bodies, head.body2, v2);
-    put_impulses_in(floats, k, kind, contact);
+    put_velocity_in(&mut *lent.bodies, head.body1, v1);
+    put_velocity_in(&mut *lent.bodies, head.body2, v2);
+    put_impulses_in(&mut *lent.floats, k, kind, contact);
     Answer {
         number: 0,
-        branch: solved.branch,
+        branch: solved.branch_word(),
     }
 }
 
 // A step on a trusted contact. Its numbers are read first; its floats in each arm, so that a kind reads what it uses, and
-// what was made is kept there, so that a kind stores what it stores.
-pub fn step_on(bodies: &mut [f32], numbers: &[u16], floats: &mut [f32], s: Step) -> Answer
-    requires { Trusted (tables bodies.old numbers.now floats.old) s.contact }
-    ensures { record { answer = result; after = tables bodies.new numbers.now floats.new } ≡ step_on s (tables bodies.old numbers.now floats.old) }
+// what was made is kept there, so that a kind stores what it stores. (A kind is a number, and every other number has the
+// last arm, as document 01 has it.)
+pub fn step_on(lent: &mut Lent<'_>, s: Step) -> Answer
+    requires { Trusted (tables_of lent.old) s.contact }
+    ensures stepped { record { answer = result; after = tables_of lent.new } ≡ step_on s (tables_of lent.old) }
+    ensures still_lent { StillLent lent.old lent.new }
 {
     let k = s.contact as usize;
-    let contact = its_contact(numbers, floats, k);
+    let contact = its_contact(&*lent, k);
     let head = contact.head;
-    let vels = velocities_in(bodies, head);
+    let vels = velocities_in(&*lent, head);
     let kind = s.kind;
     match kind {
         0 => {
-            let made = warmstart(its_contact(numbers, floats, k), vels);
-            kept(bodies, floats, k, kind, made)
+            let made = warmstart(its_contact(&*lent, k), vels);
+            kept(&mut *lent, k, kind, made)
         }
         1 => {
-            let made = over_points(its_contact(numbers, floats, k), Rule::Normal, vels);
-            kept(bodies, floats, k, kind, made)
+            let made = over_points(its_contact(&*lent, k), Rule::Normal, vels);
+            kept(&mut *lent, k, kind, made)
         }
         2 => {
-            let made = over_points(its_contact(numbers, floats, k), Rule::Friction, vels);
-            kept(bodies, floats, k, kind, made)
+            let made = over_points(its_contact(&*lent, k), Rule::Friction, vels);
+            kept(&mut *lent, k, kind, made)
         }
         3 => {
-            let made = over_points(its_contact(numbers, floats, k), Rule::Restitution, vels);
-            kept(bodies, floats, k, kind, made)
+            let made = over_points(its_contact(&*lent, k), Rule::Restitution, vels);
+            kept(&mut *lent, k, kind, made)
         }
         4 => {
             if pair_of_one(kind, head) {
-                return numbered(7);
+                return Answer::from(Refusal::PairOfOne);
             }
-            let made = solve_pair(its_contact(numbers, floats, k), vels);
-            kept(bodies, floats, k, kind, made)
+            let made = solve_pair(its_contact(&*lent, k), vels);
+            kept(&mut *lent, k, kind, made)
         }
-        5..=65535 => numbered(3),
+        5..=65535 => Answer::from(Refusal::KindAbove),
     }
 }

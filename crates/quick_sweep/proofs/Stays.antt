@@ -17,8 +17,6 @@ use Rattle.step_contact.specs.Contact.{is_floor}
 use Rattle.step_contact.specs.declared.ContactHead.{ContactHead}
 use Rattle.step_contact.specs.declared.Contact.{Contact}
 use Rattle.step_promises.proofs.Promises.{finite_done, same_head_kept}
-use Rattle.step_rules.specs.declared.Outcome.{Outcome}
-use Rattle.step_rules.specs.declared.Outcome.TheVariants.{Refused, Done}
 use Rattle.step_values.specs.Values.{finite_vel, not_finite_vels}
 use Rattle.list_tables.specs.Tables.{contact_at, vel_at}
 use Rattle.list_tables.specs.declared.Step.{Step}
@@ -33,6 +31,7 @@ use Rattle.list_readback.proofs.ReadBack.{each_contact}
 use Rattle.quick_flaws.proofs.Stays.{stays_vouched}
 use Rattle.quick_flaws.specs.Flaws.{vouched}
 use Rattle.quick_step.specs.Trusted.{Trusted}
+use Rattle.step_rules.specs.Step.{Done, Outcome, Refused}
 
 -- a body's velocity stays finite where a finite one, or the floor's, is written
 put_finite : (bodies : List Float) (body : ℕ) (v : SolverVel) (m : ℕ) → (is_floor body ≡ false → finite_vel v ≡ true) → finite_vel (vel_at bodies m) ≡ true

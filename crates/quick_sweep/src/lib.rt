@@ -2,93 +2,86 @@
 // says that it need not be looked at again. What a list comes to is the same without flags.
 #![tactic(auto)]
 
-ghost use Rattle.std.specs.Prelude.{◌≡◌};
+ghost use Rattle.std.specs.Prelude.{◌≡◌, ◌≤◌};
+ghost use Rattle.base_places.specs.Places.{most_contacts};
+ghost use Rattle.base_refusals.specs.Numbers.{number_of};
 ghost use Rattle.base_words.specs.Choice.{if◌then◌otherwise◌};
-ghost use Rattle.list_rules.specs.Sweep.{is_refused, step_on, sweep, swept, tables};
-ghost use Rattle.quick_step.specs.Trusted.{Looked};
+ghost use Rattle.list_rules.specs.Sweep.{is_refused, step_on, sweep, swept};
+ghost use Rattle.quick_step.specs.Trusted.{Looked, StillLent, tables_of};
 ghost use Rattle.quick_sweep.specs.Flags.{Trusting, flagged, raised};
 ghost use Rattle.quick_sweep.specs.Next.{StepDone};
 
 use base_places::{FLOATS_WIDTH, MOST_CONTACTS};
+use base_refusals::Refusal;
 use list_cells::{Answer, put_answer};
 use list_tables::{Step, step_at, steps_among};
-use quick_step::{look, step_on};
+use quick_step::{Lent, look, step_on};
 
 // So many flags do for a table of few contacts.
 const FEW: usize = 256;
 
-// Whether the flag of contact k is up.
-fn raised(flags: &[u8], k: usize) -> bool
+// Whether the flag of contact k is up; one that has no flag has none up.
+fn raised(flags: &[bool], k: usize) -> bool
     ensures { result ≡ raised flags.now k }
 {
-    if k < flags.len() {
-        return flags[k] == 1;
-    }
-    false
+    flags.get(k).copied().unwrap_or(false)
 }
 
-// Puts the flag of contact k up, if it has one.
-fn raise(flags: &mut [u8], k: usize)
+// Puts the flag of contact k up, if it has one. (By its index: `get_mut` promises nothing of what the slice ends as.)
+fn raise(flags: &mut [bool], k: usize)
     ensures { flags.new ≡ flagged flags.old k }
 {
     if k < flags.len() {
-        flags[k] = 1;
+        flags[k] = true;
     }
 }
 
-// What turns the step away before it is worked, by its number, or 0: nothing, if its contact's flag is up, and else what
-// a look finds. Where it finds nothing, the flag goes up.
-fn turned_away(bodies: &[f32], numbers: &[u16], floats: &[f32], flags: &mut [u8], s: Step) -> u16
-    requires { Trusting flags.old (tables bodies.now numbers.now floats.now) }
-    ensures looked { Looked s (tables bodies.now numbers.now floats.now) result }
-    ensures trusting { Trusting flags.new (tables bodies.now numbers.now floats.now) }
+// What turns the step away before it is worked: nothing, if its contact's flag is up, and else what a look finds. Where
+// it finds nothing, the flag goes up.
+fn turned_away(lent: &Lent<'_>, flags: &mut [bool], s: Step) -> Option<Refusal>
+    requires { Trusting flags.old (tables_of lent.now) }
+    ensures looked { Looked s (tables_of lent.now) (number_of result) }
+    ensures trusting { Trusting flags.new (tables_of lent.now) }
 {
     let k = s.contact as usize;
     if raised(flags, k) {
-        return 0;
+        return None;
     }
-    let found = look(bodies, numbers, floats, s);
-    if found == 0 {
+    let found = look(lent, s);
+    if found.is_none() {
         raise(flags, k);
     }
     found
 }
 
 // One step on the tables: turned away, or worked on a contact that is trusted.
-fn answer_to(
-    bodies: &mut [f32],
-    numbers: &[u16],
-    floats: &mut [f32],
-    flags: &mut [u8],
-    s: Step,
-) -> Answer
-    requires { Trusting flags.old (tables bodies.old numbers.now floats.old) }
-    ensures floats_after { record { answer = result; after = tables bodies.new numbers.now floats.new } ≡ step_on s (tables bodies.old numbers.now floats.old) }
-    ensures trusting { Trusting flags.new (tables bodies.new numbers.now floats.new) }
+fn answer_to(lent: &mut Lent<'_>, flags: &mut [bool], s: Step) -> Answer
+    requires { Trusting flags.old (tables_of lent.old) }
+    ensures stepped { record { answer = result; after = tables_of lent.new } ≡ step_on s (tables_of lent.old) }
+    ensures trusting { Trusting flags.new (tables_of lent.new) }
+    ensures still_lent { StillLent lent.old lent.new }
 {
-    let number = turned_away(bodies, numbers, floats, flags, s);
-    if number == 0 {
-        return step_on(bodies, numbers, floats, s);
+    match turned_away(&*lent, flags, s) {
+        None => step_on(lent, s),
+        Some(refusal) => Answer::from(refusal),
     }
-    Answer { number, branch: 0 }
 }
 
 // Step i of the list: its answer, laid into row i of the room.
 fn next_step(
-    bodies: &mut [f32],
-    numbers: &[u16],
-    floats: &mut [f32],
+    lent: &mut Lent<'_>,
     steps: &[u16],
     room: &mut [u16],
-    flags: &mut [u8],
+    flags: &mut [bool],
     i: usize,
 ) -> Answer
-    requires { Trusting flags.old (tables bodies.old numbers.now floats.old) }
-    ensures step_done { StepDone steps.now i (tables bodies.old numbers.now floats.old) room.old result (tables bodies.new numbers.now floats.new) room.new }
-    ensures trusting { Trusting flags.new (tables bodies.new numbers.now floats.new) }
+    requires { Trusting flags.old (tables_of lent.old) }
+    ensures step_done { StepDone steps.now i (tables_of lent.old) room.old result (tables_of lent.new) room.new }
+    ensures trusting { Trusting flags.new (tables_of lent.new) }
+    ensures still_lent { StillLent lent.old lent.new }
 {
     let s = step_at(steps, i);
-    let answer = answer_to(bodies, numbers, floats, flags, s);
+    let answer = answer_to(lent, flags, s);
     put_answer(room, i, answer);
     answer
 }
@@ -97,62 +90,47 @@ fn next_step(
 fn refusal(answer: Answer) -> usize
     ensures { result ≡ (if is_refused answer then 1 otherwise 0) }
 {
-    if answer.number == 0 { 0 } else { 1 }
+    usize::from(answer.number != 0)
 }
 
 // The first n steps of the list, or all that it has, one by one; a refused step does not stop it. How many were refused.
-fn walk(
-    bodies: &mut [f32],
-    numbers: &[u16],
-    floats: &mut [f32],
-    steps: &[u16],
-    room: &mut [u16],
-    flags: &mut [u8],
-    n: usize,
-) -> usize
-    requires { Trusting flags.old (tables bodies.old numbers.now floats.old) }
-    ensures { swept (tables bodies.new numbers.now floats.new) room.new result ≡ sweep steps.now n (tables bodies.old numbers.now floats.old) room.old }
+fn walk(lent: &mut Lent<'_>, steps: &[u16], room: &mut [u16], flags: &mut [bool], n: usize) -> usize
+    requires { Trusting flags.old (tables_of lent.old) }
+    ensures swept { swept (tables_of lent.new) room.new result ≡ sweep steps.now n (tables_of lent.old) room.old }
+    ensures still_lent { StillLent lent.old lent.new }
 {
     let last = steps_among(steps, n);
-    let mut i = 0;
     let mut refused = 0;
-    while i < last {
-        let answer = next_step(bodies, numbers, floats, steps, room, flags, i);
+    for i in 0..last {
+        let answer = next_step(lent, steps, room, flags, i);
         refused += refusal(answer);
-        i += 1;
     }
     refused
 }
 
-// The same with no flag up at first: a few for a table of few contacts, so that little has to be cleared; ..
-fn sweep_few(
-    bodies: &mut [f32],
-    numbers: &[u16],
-    floats: &mut [f32],
+// The same with N flags, of which none is up at first.
+fn sweep_with<const N: usize>(
+    lent: &mut Lent<'_>,
     steps: &[u16],
     room: &mut [u16],
     n: usize,
 ) -> usize
-    ensures { swept (tables bodies.new numbers.now floats.new) room.new result ≡ sweep steps.now n (tables bodies.old numbers.now floats.old) room.old }
+    requires { N ≤ most_contacts }
+    ensures swept { swept (tables_of lent.new) room.new result ≡ sweep steps.now n (tables_of lent.old) room.old }
+    ensures still_lent { StillLent lent.old lent.new }
 {
-    let mut flags = [0u8; FEW];
-    walk(bodies, numbers, floats, steps, room, &mut flags, n)
+    let mut flags = [false; N];
+    walk(lent, steps, room, &mut flags, n)
 }
 
-// .. or one for each contact that a call may have.
-pub fn sweep(
-    bodies: &mut [f32],
-    numbers: &[u16],
-    floats: &mut [f32],
-    steps: &[u16],
-    room: &mut [u16],
-    n: usize,
-) -> usize
-    ensures { swept (tables bodies.new numbers.now floats.new) room.new result ≡ sweep steps.now n (tables bodies.old numbers.now floats.old) room.old }
+// A few flags do for a table of few contacts, so that little has to be cleared; else there is one for each contact that a
+// call may have.
+pub fn sweep(lent: &mut Lent<'_>, steps: &[u16], room: &mut [u16], n: usize) -> usize
+    ensures swept { swept (tables_of lent.new) room.new result ≡ sweep steps.now n (tables_of lent.old) room.old }
+    ensures still_lent { StillLent lent.old lent.new }
 {
-    if floats.len() / FLOATS_WIDTH <= FEW {
-        return sweep_few(bodies, numbers, floats, steps, room, n);
+    if lent.floats.len() / FLOATS_WIDTH <= FEW {
+        return sweep_with::<FEW>(lent, steps, room, n);
     }
-    let mut flags = [0u8; MOST_CONTACTS];
-    walk(bodies, numbers, floats, steps, room, &mut flags, n)
+    sweep_with::<MOST_CONTACTS>(lent, steps, room, n)
 }

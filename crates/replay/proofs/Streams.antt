@@ -1,8 +1,8 @@
 -- What was read and what was written, where the bytes of both are known. Assumes nothing.
-use Rattle.std.specs.Prelude.{ℕ, Bool, ◌+◌, ◌*◌, ◌≤◌, ◌&&◌, List, [], ◌++◌, ◌≡◌, true, false, None, Some, IfSome, Option, length, ltb, take}
+use Rattle.std.specs.Prelude.{ℕ, ◌+◌, ◌*◌, ◌≤◌, List, [], ◌++◌, ◌≡◌, None, Some, IfSome, Option, Result, Ok, Err, OnOk, IsOk, length, take}
 use Rattle.std.proofs.Common.{ap, arith, append-nil, length-append, length-take, subst, sym, ◌∙◌}
 use Rattle.std.proofs.KnownBytes.{Appends-nil, Appends-trans, Consumes-nil, Consumes-trans}
-use Rattle.std.specs.Io.KnownBytes.{Appends, Consumes, IsAtEnd, Keeps}
+use Rattle.std.specs.Io.KnownBytes.{Appends, Consumes, IsAtEnd}
 use Rattle.base_places.specs.Lengths.{largest, portion_bytes}
 use Rattle.replay_days.specs.Judged.{judged}
 use Rattle.replay_days.specs.Going.{feeds, finish, start, tells}
@@ -11,14 +11,7 @@ use Rattle.replay_days.proofs.Portions.{days_few, feeds_append, tells_append}
 use Rattle.replay_judge.specs.Carried.{Buffers}
 use Rattle.replay_judge.specs.Stands.{Begins, Finishes, Stands}
 use Rattle.replay_judge.specs.declared.Judge.{Judge}
-use Rattle.replay.specs.ReadOnce.{ReadOnce}
-use Rattle.replay.specs.declared.Onward.{Onward}
-
--- a read that failed took nothing
-pub none_taken : (old new : Option (List ℕ)) → Keeps old new → Consumes old new []
-none_taken None new h = tt
-none_taken (Some x) None h = absurd h
-none_taken (Some x) (Some y) h = sym h
+use Rattle.replay.specs.ReadOnce.{Onward, ReadOnce}
 
 -- the bytes that 2^51 portions can have
 abbrev pub most_bytes : ℕ
@@ -78,10 +71,7 @@ run_ends (Some file) (Some rest) begun to to' {told' = told'} {at = at} f end do
     Appends-trans _ _ _ _ _ f.wrote (subst (Appends to to') last wrote) in
     subst (Appends begun to') (byte_by_byte f.so_far ∙ ap judged (sym whole)) all
 
--- a turn that went well, after which no more is read
-pub nothing_left : (more well : Bool) (n : ℕ) → more ≡ false → well ≡ true → more ≡ well && ltb 0 n → n ≡ 0
-nothing_left more well n m w e = grind arith
-
--- a turn after which more is read went well
-pub went_well : (more well : Bool) (n : ℕ) → more ≡ true → more ≡ well && ltb 0 n → well ≡ true
-went_well more well n m e = grind arith
+-- what the last write says where it went well
+pub well_written : {E A : Type 0} (r : Result Unit E) → OnOk r A → IsOk r → A
+well_written (Ok x) a well = a
+well_written (Err e) a well = absurd cc

@@ -3,197 +3,105 @@
 // where the file cannot be read to its end or a line not written.
 #![tactic(auto)]
 
-ghost use Rattle.std.specs.Prelude.{◌≡◌, ◌≤◌, IfSome, IsTrue, length, take};
+ghost use Rattle.std.specs.Prelude.{◌≡◌, ◌≤◌, IfOk, IfSome, IsOk, OnOk, take};
 ghost use Rattle.std.specs.Io.KnownBytes.{Appends, Consumes, IsAtEnd};
+ghost use Rattle.base_places.specs.Lengths.{told_bytes};
 ghost use Rattle.replay_days.specs.Judged.{judged};
-ghost use Rattle.replay_judge.specs.Carried.{buffers};
-ghost use Rattle.replay_judge.specs.Stands.{Finishes};
-ghost use Rattle.replay.specs.ReadOnce.{ReadOnce};
+ghost use Rattle.replay_judge.specs.Carried.{buffers_of};
+ghost use Rattle.replay.specs.ReadOnce.{ReadOnce, onward};
 
-use base_places::{
-    BODY_WIDTH, FLOATS_WIDTH, LONGEST_OUTPUT, MOST_IN_LINE, NUMBERS_WIDTH, PORTION, PROGRAM_BODIES,
-    PROGRAM_CONTACTS, PROGRAM_STEPS, STEP_WIDTH, TOLD,
-};
+use base_places::{LONGEST_OUTPUT, PORTION, TOLD};
 use replay_judge::{Judge, begin, judge_end, judge_read};
+use std::fmt;
 use std::io::{Read, Write};
+use text_program::{MOST_PORTIONS, NightBuffers};
 
-// How many bytes were handed to be written, and whether they were.
-#[derive(Clone, Copy)]
-struct Handed {
-    count: usize,
-    well: bool,
+// Why a run ended before all days were told of. The text program has a type of its own: one for both would need both
+// programs' words.
+#[derive(Clone, Copy, Debug, PartialEq, Eq)]
+enum Failed {
+    Unread,
+    Unwritten,
+    TooLong,
 }
 
-// After a portion: what is carried on, how many bytes were read and how many handed to be written, whether there may be
-// more to read, and whether all went well so far.
+impl fmt::Display for Failed {
+    fn fmt<W: fmt::Write>(&self, f: &mut fmt::Formatter<W>) -> fmt::Result {
+        match self {
+            Failed::Unread => write!(f, "the file could not be read to its end"),
+            Failed::Unwritten => write!(f, "a day's line could not be written"),
+            Failed::TooLong => write!(f, "the file is too long"),
+        }
+    }
+}
+
+// After a portion: what is carried on, how many bytes were read, and how many are told of them.
 #[derive(Clone, Copy)]
-struct Onward {
+struct Reading {
     judge: Judge,
     read: usize,
     count: usize,
-    more: bool,
-    well: bool,
-}
-
-// Says what went wrong; where that cannot be written, there is nobody left to tell.
-fn say<E: Write>(errors: &mut E, message: &[u8]) {
-    let _ = errors.write_all(message);
-}
-
-// Hands the first k bytes to be written, and answers how many that were.
-fn write_out<W: Write, E: Write>(to: &mut W, errors: &mut E, told: &[u8], k: usize) -> Handed
-    requires { k ≤ length told.now }
-    ensures count { result.count ≡ k }
-    ensures written { IsTrue result.well → Appends (W.contents to.old) (W.contents to.new) (take k told.now) }
-{
-    let well = to.write_all(&told[..k]).is_ok();
-    if !well {
-        say(errors, b"replay: a day's line could not be written\n");
-    }
-    Handed { count: k, well }
 }
 
 // Reads once, and tells of the days that end there. Where the read fails, it is as if no byte was read.
-fn replay_some<R: Read, W: Write, E: Write>(
+fn replay_some<R: Read>(
     from: &mut R,
-    to: &mut W,
-    errors: &mut E,
     j: Judge,
     portion: &mut [u8; PORTION],
-    held: &mut [u8; MOST_IN_LINE],
-    bodies: &mut [u32; PROGRAM_BODIES * BODY_WIDTH],
-    numbers: &mut [u16; PROGRAM_CONTACTS * NUMBERS_WIDTH],
-    floats: &mut [u32; PROGRAM_CONTACTS * FLOATS_WIDTH],
-    steps: &mut [u16; PROGRAM_STEPS * STEP_WIDTH],
+    night: &mut NightBuffers,
     out: &mut [u8; LONGEST_OUTPUT],
     told: &mut [u8; TOLD],
-) -> Onward
-    ensures once { ReadOnce j (buffers held.old bodies.old numbers.old floats.old steps.old) out.old told.old result
-        portion.new (buffers held.new bodies.new numbers.new floats.new steps.new) out.new told.new }
-    ensures taken { Consumes (R.remaining from.old) (R.remaining from.new) (take result.read portion.new) }
-    ensures at_end { IsTrue result.well → result.read ≡ 0 → IsAtEnd (R.remaining from.new) }
-    ensures written { IsTrue result.well → Appends (W.contents to.old) (W.contents to.new) (take result.count told.new) }
+) -> Result<Reading, Failed>
+    ensures once { ReadOnce j (buffers_of night.old) out.old told.old (onward j result)
+        portion.new (buffers_of night.new) out.new told.new }
+    ensures taken { Consumes (R.remaining from.old) (R.remaining from.new) (take (onward j result).read portion.new) }
+    ensures at_end { IfOk result (λ on. on.read ≡ 0 → IsAtEnd (R.remaining from.new)) }
+    ensures fits { IfOk result (λ on. on.count ≤ told_bytes) }
 {
     let Ok(n) = from.read(&mut *portion) else {
-        say(errors, b"replay: the file could not be read to its end\n");
-        return Onward {
-            judge: j,
-            read: 0,
-            count: 0,
-            more: false,
-            well: false,
-        };
+        return Err(Failed::Unread);
     };
-    let t = judge_read(
-        j, &*portion, n, held, bodies, numbers, floats, steps, out, &mut *told,
-    );
-    let judge = t.judge;
-    let at = t.at;
-    let handed = write_out(to, errors, &*told, at);
-    let count = handed.count;
-    let well = handed.well;
-    Onward {
-        judge: judge,
+    let t = judge_read(j, &*portion, n, night, out, told);
+    Ok(Reading {
+        judge: t.judge,
         read: n,
-        count: count,
-        more: well & (0 < n),
-        well: well,
-    }
+        count: t.at,
+    })
 }
 
-// The end of the file.
-fn replay_end<W: Write, E: Write>(
-    to: &mut W,
-    errors: &mut E,
-    j: Judge,
-    held: &mut [u8; MOST_IN_LINE],
-    bodies: &mut [u32; PROGRAM_BODIES * BODY_WIDTH],
-    numbers: &mut [u16; PROGRAM_CONTACTS * NUMBERS_WIDTH],
-    floats: &mut [u32; PROGRAM_CONTACTS * FLOATS_WIDTH],
-    steps: &mut [u16; PROGRAM_STEPS * STEP_WIDTH],
-    out: &mut [u8; LONGEST_OUTPUT],
-    told: &mut [u8; TOLD],
-) -> Handed
-    ensures finishes { Finishes j (buffers held.old bodies.old numbers.old floats.old steps.old) out.old told.old told.new result.count }
-    ensures written { IsTrue result.well → Appends (W.contents to.old) (W.contents to.new) (take result.count told.new) }
+// Writes what is told.
+fn write_told<W: Write>(to: &mut W, told: &[u8]) -> Result<(), Failed>
+    ensures { OnOk result (Appends (W.contents to.old) (W.contents to.new) told.now) }
 {
-    let k = judge_end(j, held, bodies, numbers, floats, steps, out, &mut *told);
-    write_out(to, errors, &*told, k)
+    to.write_all(told).map_err(|_| Failed::Unwritten)
 }
 
-// Portion after portion, each turn with what the one before left; then the end. A proved loop has to end, and nothing
-// says that a file does: so the loop counts down from a number that no run uses up. With 2^51 portions of 4,096 bytes a
-// day's number stays below 2^63. Answers whether all went well: then what is to be said of the file's days was written, and
-// nothing else.
-fn replay_all<R: Read, W: Write, E: Write>(
-    from: &mut R,
-    to: &mut W,
-    errors: &mut E,
-    portion: &mut [u8; PORTION],
-    held: &mut [u8; MOST_IN_LINE],
-    bodies: &mut [u32; PROGRAM_BODIES * BODY_WIDTH],
-    numbers: &mut [u16; PROGRAM_CONTACTS * NUMBERS_WIDTH],
-    floats: &mut [u32; PROGRAM_CONTACTS * FLOATS_WIDTH],
-    steps: &mut [u16; PROGRAM_STEPS * STEP_WIDTH],
-    out: &mut [u8; LONGEST_OUTPUT],
-    told: &mut [u8; TOLD],
-) -> bool
-    ensures { IsTrue result → IfSome (R.remaining from.old)
+// Portion after portion, each turn with what the one before left; then the end. With so many portions a day's number stays
+// below 2^63. Where all went well, what is to be said of the file's days was written, and nothing else.
+fn replay_all<R: Read, W: Write>(from: &mut R, to: &mut W) -> Result<(), Failed>
+    ensures { IsOk result → IfSome (R.remaining from.old)
         (λ file. Appends (W.contents to.old) (W.contents to.new) (judged file)) }
 {
+    let mut portion = [0; PORTION];
+    let mut night = NightBuffers::zeros();
+    let mut out = [0; LONGEST_OUTPUT];
+    let mut told = [0; TOLD];
     let mut j = begin();
-    let mut turns: u64 = 2251799813685248;
-    while 0 < turns {
-        let on = replay_some(
-            &mut *from,
-            &mut *to,
-            &mut *errors,
-            j,
-            &mut *portion,
-            &mut *held,
-            &mut *bodies,
-            &mut *numbers,
-            &mut *floats,
-            &mut *steps,
-            &mut *out,
-            &mut *told,
-        );
+    for _ in 0..MOST_PORTIONS {
+        let on = replay_some(&mut *from, j, &mut portion, &mut night, &mut out, &mut told)?;
+        write_told(&mut *to, &told[..on.count])?;
         j = on.judge;
-        if !on.more {
-            if !on.well {
-                return false;
-            }
-            let handed = replay_end(
-                to, errors, j, held, bodies, numbers, floats, steps, out, told,
-            );
-            return handed.well;
+        if on.read == 0 {
+            let k = judge_end(j, &mut night, &mut out, &mut told);
+            return write_told(to, &told[..k]);
         }
-        turns -= 1;
     }
-    say(errors, b"replay: the file is too long\n");
-    false
+    Err(Failed::TooLong)
 }
 
 fn main(rt: HostRuntime) {
-    let mut portion = [0; PORTION];
-    let mut held = [0; MOST_IN_LINE];
-    let mut bodies = [0; PROGRAM_BODIES * BODY_WIDTH];
-    let mut numbers = [0; PROGRAM_CONTACTS * NUMBERS_WIDTH];
-    let mut floats = [0; PROGRAM_CONTACTS * FLOATS_WIDTH];
-    let mut steps = [0; PROGRAM_STEPS * STEP_WIDTH];
-    let mut out = [0; LONGEST_OUTPUT];
-    let mut told = [0; TOLD];
-    replay_all(
-        &mut rt.stdin(),
-        &mut rt.stdout(),
-        &mut rt.stderr(),
-        &mut portion,
-        &mut held,
-        &mut bodies,
-        &mut numbers,
-        &mut floats,
-        &mut steps,
-        &mut out,
-        &mut told,
-    );
+    if let Err(failed) = replay_all(&mut rt.stdin(), &mut rt.stdout()) {
+        // where that cannot be written, there is nobody left to tell
+        let _ = eprintln!(rt; "replay: {failed}");
+    }
 }

@@ -6,6 +6,7 @@ use borrow.Author.Tests.{eqb-true, ltb-false, ltb-true, ne_eqb}
 use mathlib.Core.Bool.{Bool, true, false}
 use mathlib.Core.List.{List, [], ◌∷◌, ◌++◌, append_assoc, append-nil}
 use mathlib.Core.Path.{◌≡◌, refl, sym, ◌∙◌}
+use Rattle.std.specs.Prelude.{Option, None, Some}
 use lib.Dec.{eqb, ltb}
 use lib.ListN.{drop, drop_of_length-le, get_or, length, take}
 use lib.Seq.{drop-cons, length-take-le}
@@ -13,11 +14,9 @@ use Rattle.base_places.specs.Lengths.{longest_output, one_more}
 use Rattle.base_words.proofs.Pick.{never}
 use Rattle.replay_days.specs.Judged.{lines_from, verdict}
 use Rattle.replay_days.specs.Going.{ending, meets, rest_of}
-use Rattle.replay_compare.specs.Spots.{compared_to, end_number, met_by, next_of, off, shape_of}
+use Rattle.replay_compare.specs.Spots.{compared_to, end_number, met_at, met_by, met_from, next_of, placed, shape_of}
 use Rattle.replay_compare.specs.Meets.{Meets}
 use Rattle.replay_compare.specs.declared.LineSoFar.{LineSoFar}
-use Rattle.replay_compare.specs.declared.Meeting.{Meeting}
-use Rattle.replay_compare.specs.declared.Meeting.TheVariants.{Line as NextLine, Other}
 use Rattle.replay_compare.specs.declared.Spot.{Spot}
 use Rattle.replay_compare.proofs.Apart.{
   ends_before,
@@ -45,42 +44,47 @@ module _ (p : Spot) (buffer line : List ℕ) (left : List (List ℕ)) (n b : ℕ
   abbrev o : List ℕ
   o = take p.len buffer
 
-  -- the lines part here, unless they have before
-  parted : ((t : List ℕ) → meets (line ++ (b ∷ t)) (lines_from line (drop p.at o)) ≡ false)
-      → Meets (off p) buffer (line ++ (b ∷ [])) left n
-  parted here = record {
+  -- the lines have parted
+  parted : ((t : List ℕ) → meets (line ++ (b ∷ t)) left ≡ false) → Meets (placed p None) buffer (line ++ (b ∷ [])) left n
+  parted apart = record {
     len = m.len;
     start = m.start;
-    on = λ e. never (sym e);
-    off = λ e t. rw append_assoc (by p.on refl t);
+    on = λ at e. cc;
+    off = λ e t. rw append_assoc (apart t);
     number = m.number;
     few = m.few;
   }
-    where
-      by : (on : Bool) → p.on ≡ on → (t : List ℕ) → meets (line ++ (b ∷ t)) left ≡ false
-      by true e t = rw (m.on e) at (here t)
-      by false e t = m.off e (b ∷ t)
 
-  byte_by : (there equal : Bool) → ltb p.at (length o) ≡ there → eqb (get_or o p.at 0) b ≡ equal → eqb b 10 ≡ false
-      → Meets (compared_to p (next_of o p.at) b) buffer (line ++ (b ∷ [])) left n
-  byte_by true true e f g =
-      let same : get_or o p.at 0 ≡ b = eqb-true _ _ f in
+  byte_by : (at : ℕ) → p.at ≡ Some at → (there equal : Bool) → ltb at (length o) ≡ there → eqb (get_or o at 0) b ≡ equal → eqb b 10 ≡ false
+      → Meets (compared_to p (next_of o (Some at)) b) buffer (line ++ (b ∷ [])) left n
+  byte_by at is true true e f g =
+      let same : get_or o at 0 ≡ b = eqb-true _ _ f in
+      let on : lines_from (line ++ (b ∷ [])) (drop (at + 1) o) ≡ left =
+      sym (goes_on line b (drop (at + 1) o) g) ∙ (rw (begins o at e, same) at (m.on at is)) in
       rw (e, f)
       (record {
         len = m.len;
         start = m.start;
-        on = λ on.
-            sym (goes_on line b (drop (p.at + 1) o) g) ∙ (rw (begins o p.at e, same) at (m.on on));
-        off = λ off t. rw append_assoc (m.off off (b ∷ t));
+        on = λ place now. let here : at + 1 ≡ place = cc in rw (← here) on;
+        off = λ now. cc;
         number = m.number;
         few = m.few;
       })
-  byte_by true false e f g =
-      rw (e, f) (parted (λ t. rw (begins o p.at e) (parts line (get_or o p.at 0) (drop (p.at + 1) o) b t f)))
-  byte_by false equal e f g = rw e (parted (λ t. rw (ended o p.at e) (goes_past line b t)))
+  byte_by at is true false e f g =
+      let apart : (t : List ℕ) → meets (line ++ (b ∷ t)) (lines_from line (drop at o)) ≡ false =
+      λ t. rw (begins o at e) (parts line (get_or o at 0) (drop (at + 1) o) b t f) in
+      rw (e, f) (parted (λ t. rw (m.on at is) at (apart t)))
+  byte_by at is false equal e f g =
+      let apart : (t : List ℕ) → meets (line ++ (b ∷ t)) (lines_from line (drop at o)) ≡ false =
+      λ t. rw (ended o at e) (goes_past line b t) in
+      rw e (parted (λ t. rw (m.on at is) at (apart t)))
+
+  byte_from : (place : Option ℕ) → p.at ≡ place → eqb b 10 ≡ false → Meets (compared_to p (next_of o place) b) buffer (line ++ (b ∷ [])) left n
+  byte_from None e g = parted (λ t. m.off e (b ∷ t))
+  byte_from (Some at) e g = byte_by at e (ltb at (length o)) (eqb (get_or o at 0) b) refl refl g
 
   pub byte_beside : (b ≡ 10 → ⊥) → Meets (compared_to p (next_of o p.at) b) buffer (line ++ (b ∷ [])) left n
-  byte_beside h = byte_by (ltb p.at (length o)) (eqb (get_or o p.at 0) b) refl refl (ne_eqb b 10 h)
+  byte_beside h = byte_from p.at refl (ne_eqb b 10 h)
 
 -- one that is met is the first of those left
 first_met : (line : List ℕ) (left : List (List ℕ)) → meets line left ≡ true → length left ≡ suc (length (rest_of left))
@@ -93,11 +97,11 @@ module _ (len number : ℕ) (buffer line : List ℕ) (left : List (List ℕ)) (n
   pub record IsNext (s : ℕ) : Type 0 where
     pub next : meets line left ≡ true
     -- the output's line after this one starts at s
-    pub spot : Meets (record { len = len; start = s; at = s; on = true; number = one_more number }) buffer [] (rest_of left) (n + 1)
+    pub spot : Meets (record { len = len; start = s; at = Some s; number = one_more number }) buffer [] (rest_of left) (n + 1)
 
-  abbrev pub Beside : Meeting → Type 0
-  Beside (NextLine s) = IsNext s
-  Beside Other = meets line left ≡ false
+  abbrev pub Beside : Option ℕ → Type 0
+  Beside (Some s) = IsNext s
+  Beside None = meets line left ≡ false
 
 -- the end of a line
 module _ (p : Spot) (buffer line : List ℕ) (left : List (List ℕ)) (n : ℕ) (m : Meets p buffer line left n) where
@@ -113,68 +117,72 @@ module _ (p : Spot) (buffer line : List ℕ) (left : List (List ℕ)) (n : ℕ) 
         spot = record {
           len = m.len;
           start = r;
-          on = λ on. r;
-          off = λ off. never off;
+          on = λ at now. let here : s ≡ at = cc in rw (← here) r;
+          off = λ now. cc;
           number = omega (arith, few, m.number);
           few = omega (arith, few, l);
         };
       }
 
-  byte_end : (ten : Bool) (shape : LineSoFar) → p.on ≡ true → ltb p.at (length whole) ≡ true → eqb (get_or whole p.at 0) 10 ≡ ten
-      → Beside p.len p.number buffer line left n (met_by p (next_of whole p.at) shape)
-  byte_end true shape on e f =
-      let l : lines_from line (get_or whole p.at 0 ∷ drop (p.at + 1) whole) ≡ left = rw (← begins whole p.at e) (m.on on) in
-      rw (on, e, f)
-      (is_next (p.at + 1) (rw (← l) (ends_with line _ _ f)) (rw (← l) (rest_after line (get_or whole p.at 0) (drop (p.at + 1) whole) f)))
-  byte_end false shape on e f =
-      let l : lines_from line (get_or whole p.at 0 ∷ drop (p.at + 1) whole) ≡ left = rw (← begins whole p.at e) (m.on on) in
-      rw (on, e, f) (rw (← l) (ends_before line _ _ f))
+  module _ (at : ℕ) (on : lines_from line (drop at whole) ≡ left) where
+    byte_end : (ten : Bool) (shape : LineSoFar) → ltb at (length whole) ≡ true → eqb (get_or whole at 0) 10 ≡ ten
+        → Beside p.len p.number buffer line left n (met_at at (next_of whole (Some at)) shape)
+    byte_end true shape e f =
+        let l : lines_from line (get_or whole at 0 ∷ drop (at + 1) whole) ≡ left = rw (← begins whole at e) on in
+        rw (e, f)
+        (is_next (at + 1) (rw (← l) (ends_with line _ _ f)) (rw (← l) (rest_after line (get_or whole at 0) (drop (at + 1) whole) f)))
+    byte_end false shape e f =
+        let l : lines_from line (get_or whole at 0 ∷ drop (at + 1) whole) ≡ left = rw (← begins whole at e) on in
+        rw (e, f) (rw (← l) (ends_before line _ _ f))
 
-  -- the output's last line, which ends with the output
-  last_end : eqb (length line) 0 ≡ false → lines_from line [] ≡ left → ltb p.at (length whole) ≡ false
-      → IsNext p.len p.number buffer line left n p.at
-  last_end e l f = is_next p.at (rw (← l) (last_met line e)) (rw (ended whole p.at f, ← l) (none_after line))
+    -- the output's last line, which ends with the output
+    last_end : eqb (length line) 0 ≡ false → lines_from line [] ≡ left → ltb at (length whole) ≡ false
+        → IsNext p.len p.number buffer line left n at
+    last_end e l f = is_next at (rw (← l) (last_met line e)) (rw (ended whole at f, ← l) (none_after line))
 
-  output_end : (l : List ℕ) → line ≡ l → p.on ≡ true → ltb p.at (length whole) ≡ false
-      → Beside p.len p.number buffer line left n (met_by p (next_of whole p.at) (shape_of l))
-  output_end [] is on e =
-      let l : lines_from line [] ≡ left = rw (← ended whole p.at e) (m.on on) in
-      rw (on, e) (rw (← l, is) none_left)
-  output_end (b ∷ []) is on e =
-      let l : lines_from line [] ≡ left = rw (← ended whole p.at e) (m.on on) in
-      rw (on, e) (last_end (rw is refl) l e)
-  output_end (b ∷ c ∷ s) is on e =
-      let l : lines_from line [] ≡ left = rw (← ended whole p.at e) (m.on on) in
-      rw (on, e) (last_end (rw is (some [] b (c ∷ s))) l e)
+    output_end : (l : List ℕ) → line ≡ l → ltb at (length whole) ≡ false
+        → Beside p.len p.number buffer line left n (met_at at (next_of whole (Some at)) (shape_of l))
+    output_end [] is e =
+        let l : lines_from line [] ≡ left = rw (← ended whole at e) on in
+        rw e (rw (← l, is) none_left)
+    output_end (b ∷ []) is e =
+        let l : lines_from line [] ≡ left = rw (← ended whole at e) on in
+        rw e (last_end (rw is refl) l e)
+    output_end (b ∷ c ∷ s) is e =
+        let l : lines_from line [] ≡ left = rw (← ended whole at e) on in
+        rw e (last_end (rw is (some [] b (c ∷ s))) l e)
 
-  line_by : (on there : Bool) → p.on ≡ on → ltb p.at (length whole) ≡ there
-      → Beside p.len p.number buffer line left n (met_by p (next_of whole p.at) (shape_of line))
-  line_by true true e f = byte_end (eqb (get_or whole p.at 0) 10) (shape_of line) e f refl
-  line_by true false e f = output_end line refl e f
-  line_by false there e f = rw e (rw append-nil at (m.off e []))
+    line_by : (there : Bool) → ltb at (length whole) ≡ there
+        → Beside p.len p.number buffer line left n (met_at at (next_of whole (Some at)) (shape_of line))
+    line_by true e = byte_end (eqb (get_or whole at 0) 10) (shape_of line) e refl
+    line_by false e = output_end line refl e
+
+  line_from : (place : Option ℕ) → p.at ≡ place → Beside p.len p.number buffer line left n (met_from place (next_of whole place) (shape_of line))
+  line_from None e = rw append-nil at (m.off e [])
+  line_from (Some at) e = line_by at (m.on at e) (ltb at (length whole)) refl
 
   pub line_beside : Beside p.len p.number buffer line left n (met_by p (next_of whole p.at) (shape_of line))
-  line_beside = line_by p.on (ltb p.at (length whole)) refl refl
+  line_beside = line_from p.at refl
 
 -- a text that is not empty has a line
 module _ (day n : ℕ) where
   ends_here : (line : List ℕ) (c : ℕ) (s : List ℕ) (ten : Bool) → eqb c 10 ≡ ten
-      → ending day (lines_from (line ++ (c ∷ [])) s) n ≡ verdict day n
-      → ending day (lines_from line (c ∷ s)) n ≡ verdict day n
+      → ending day (lines_from (line ++ (c ∷ [])) s) n ≡ verdict day (Some n)
+      → ending day (lines_from line (c ∷ s)) n ≡ verdict day (Some n)
   unfolding lines_from ending
   ends_here line c s true e on = rw e
   ends_here line c s false e on = rw e on
 
-  line_left : (s line : List ℕ) → eqb (length line) 0 ≡ false → ending day (lines_from line s) n ≡ verdict day n
+  line_left : (s line : List ℕ) → eqb (length line) 0 ≡ false → ending day (lines_from line s) n ≡ verdict day (Some n)
   unfolding lines_from ending
   line_left [] line e = rw e
   line_left (c ∷ s) line e =
       ends_here line c s (eqb c 10) refl (line_left s (line ++ (c ∷ [])) (some line c []))
 
-  bytes_left : (c : ℕ) (s : List ℕ) → ending day (lines_from [] (c ∷ s)) n ≡ verdict day n
+  bytes_left : (c : ℕ) (s : List ℕ) → ending day (lines_from [] (c ∷ s)) n ≡ verdict day (Some n)
   bytes_left c s = ends_here [] c s (eqb c 10) refl (line_left s (c ∷ []) refl)
 
-none_at_all : (day n : ℕ) → verdict day 0 ≡ ending day (lines_from [] []) n
+none_at_all : (day n : ℕ) → verdict day None ≡ ending day (lines_from [] []) n
 unfolding lines_from ending
 none_at_all day n = refl
 

@@ -1,6 +1,6 @@
 -- A spot in an output, for a recorded output of which so much has been read. For the functions of this crate and of replay_judge. Assumes
 -- nothing.
-use Rattle.std.specs.Prelude.{ℕ, ◌+◌, ◌≤◌, true, false, List, [], ◌++◌, ◌≡◌, drop, length, take}
+use Rattle.std.specs.Prelude.{ℕ, ◌+◌, ◌≤◌, false, List, [], ◌++◌, None, Some, ◌≡◌, drop, length, take}
 use Rattle.base_places.specs.Lengths.{longest_output}
 use Rattle.replay_days.specs.Judged.{lines_from}
 use Rattle.replay_days.specs.Going.{meets}
@@ -12,9 +12,9 @@ pub record Meets (p : Spot) (buffer line : List ℕ) (left : List (List ℕ)) (n
   pub len : p.len ≤ length buffer
   pub start : lines_from [] (drop p.start (take p.len buffer)) ≡ left
   -- while the two lines agree, the output goes on where the recorded line does
-  pub on : p.on ≡ true → lines_from line (drop p.at (take p.len buffer)) ≡ left
+  pub on : (at : ℕ) → p.at ≡ Some at → lines_from line (drop at (take p.len buffer)) ≡ left
   -- once they do not, no end of the recorded line makes it the next
-  pub off : p.on ≡ false → (end : List ℕ) → meets (line ++ end) left ≡ false
+  pub off : p.at ≡ None → (end : List ℕ) → meets (line ++ end) left ≡ false
   pub number : p.number ≡ n
   -- an output has no more than one line more than bytes: so n is small
   pub few : n + length left ≤ longest_output + 2

@@ -2,107 +2,72 @@
 // byte or longer, and how far it agrees with the output's next line. And the lines that tell of a day.
 #![tactic(auto)]
 
-ghost use Rattle.std.specs.Prelude.{◌≡◌, ◌++◌, take};
+ghost use Rattle.std.specs.Prelude.{◌≡◌, take};
 ghost use Rattle.text_digits.specs.Digits.{dec_field};
-ghost use Rattle.text_digits.specs.Wrote.{Wrote};
+ghost use Rattle.text_digits.specs.Wrote.{Writes};
+ghost use Rattle.text_write.specs.Lines.{joined};
 ghost use Rattle.replay_days.specs.Judged.{day_line, verdict};
 ghost use Rattle.replay_compare.specs.Spots.{compared_all, compared_to, end_number, holds_only, longer_by, met_by, next_of};
 
-use text_digits::put;
+use text_digits::Page;
 
 // What is known of the line so far.
-#[derive(Clone, Copy)]
+#[derive(Clone, Copy, PartialEq, Eq)]
 pub enum LineSoFar {
     Empty,
     One(u8),
     More,
 }
 
-// A spot in the output that a recorded one is compared with: how long the output is, where its line starts, and,
-// while that line and the recorded one agree (`on`), how far they do; and the line's number.
+// A spot in the output that a recorded one is compared with: how long the output is, where its line starts, and how far
+// that line and the recorded one agree, as long as they do; and the line's number. No slice: it is carried from one portion
+// of a file to the next, and the output's buffer is lent anew with each.
 #[derive(Clone, Copy)]
 pub struct Spot {
     pub len: usize,
     pub start: usize,
-    pub at: usize,
-    pub on: bool,
+    pub at: Option<usize>,
     pub number: usize,
 }
 
-// The output's next byte and the place after it, or its end.
-#[derive(Clone, Copy)]
-pub enum Next {
-    Byte(u8, usize),
-    End,
-}
-
-// Whether a recorded line is the output's next one: where the one after that starts.
-#[derive(Clone, Copy)]
-pub enum Meeting {
-    Line(usize),
-    Other,
-}
-
 // The line with a run of bytes more.
+#[tactic(auto, using(crate::proofs::Runs::byte_more, crate::proofs::Runs::bytes_more))]
 pub fn longer(line: LineSoFar, run: &[u8]) -> LineSoFar
     ensures { result ≡ longer_by line run.now }
 {
-    if run.len() == 0 {
-        return line;
-    }
-    match line {
-        LineSoFar::Empty => {
-            if run.len() == 1 {
-                LineSoFar::One(run[0])
-            } else {
-                LineSoFar::More
-            }
-        }
-        LineSoFar::One(_) => LineSoFar::More,
-        LineSoFar::More => LineSoFar::More,
+    match (line, run) {
+        (_, []) => line,
+        (LineSoFar::Empty, [b]) => LineSoFar::One(*b),
+        _ => LineSoFar::More,
     }
 }
 
 pub fn holds_only(line: LineSoFar, b: u8) -> bool
     ensures { result ≡ holds_only line b }
 {
-    match line {
-        LineSoFar::Empty => false,
-        LineSoFar::One(c) => c == b,
-        LineSoFar::More => false,
-    }
+    line == LineSoFar::One(b)
 }
 
-// The byte at a place of the output, which is the first len bytes of the buffer.
-pub fn next_byte(out: &[u8], len: usize, at: usize) -> Next
-    ensures { result ≡ next_of (take len out.now) at }
+// The output's next byte and the place after it, while the two lines agree and the output goes on. The output is the first
+// `len` bytes of the buffer.
+pub fn next_byte(p: Spot, out: &[u8]) -> Option<(u8, usize)>
+    ensures { result ≡ next_of (take p.len out.now) p.at }
 {
-    if at < len {
-        if at < out.len() {
-            return Next::Byte(out[at], at + 1);
-        }
+    match p.at {
+        Some(at) if at < p.len && at < out.len() => Some((out[at], at + 1)),
+        _ => None,
     }
-    Next::End
 }
 
 // A recorded byte beside the output's next.
-fn compare(p: Spot, next: Next, b: u8) -> Spot
+fn compare(p: Spot, next: Option<(u8, usize)>, b: u8) -> Spot
     ensures { result ≡ compared_to p next b }
 {
-    let mut q = p;
-    match next {
-        Next::Byte(c, after) => {
-            if c == b {
-                q.at = after;
-            } else {
-                q.on = false;
-            }
-        }
-        Next::End => {
-            q.on = false;
-        }
-    }
-    q
+    let at = match next {
+        Some((c, after)) if c == b => Some(after),
+        _ => None,
+    };
+    Spot { at, ..p }
 }
 
 // A run of recorded bytes beside the output, which is the first `len` bytes of the buffer.
@@ -110,76 +75,57 @@ pub fn compare_run(p: Spot, out: &[u8], run: &[u8]) -> Spot
     ensures { result ≡ compared_all p (take p.len out.now) run.now }
 {
     let mut q = p;
-    let mut i = 0;
-    while i < run.len() {
-        let len = q.len;
-        let at = q.at;
-        let next = next_byte(out, len, at);
-        q = compare(q, next, run[i]);
-        i += 1;
+    for b in run {
+        q = compare(q, next_byte(q, out), *b);
     }
     q
 }
 
-// The end of a recorded line beside the output's next byte. The output's last line may end with the output.
-pub fn met(p: Spot, next: Next, line: LineSoFar) -> Meeting
+// The end of a recorded line beside the output's next byte: where the line after it starts, if it is the output's. The
+// output's last line may end with the output.
+pub fn met(p: Spot, next: Option<(u8, usize)>, line: LineSoFar) -> Option<usize>
     ensures { result ≡ met_by p next line }
 {
-    let at = p.at;
-    if p.on {
-        match next {
-            Next::Byte(c, after) => {
-                if c == 10 {
-                    Meeting::Line(after)
-                } else {
-                    Meeting::Other
-                }
-            }
-            Next::End => match line {
-                LineSoFar::Empty => Meeting::Other,
-                LineSoFar::One(_) => Meeting::Line(at),
-                LineSoFar::More => Meeting::Line(at),
-            },
-        }
-    } else {
-        Meeting::Other
+    let at = p.at?;
+    match next {
+        Some((10, after)) => Some(after),
+        None if line != LineSoFar::Empty => Some(at),
+        _ => None,
     }
+}
+
+// A day's line: its number, and these fields.
+fn day_line(page: &mut Page, day: usize, fields: &[u64])
+    ensures { Writes page.old (day_line day (joined dec_field fields.now)) page.new }
+{
+    page.dec_number(day as u64);
+    for x in fields {
+        page.dec_field(*x);
+    }
+    page.put(10);
 }
 
 // A day's line of two fields.
-pub fn tell(told: &mut [u8], at: usize, day: usize, second: u64) -> usize
-    ensures { Wrote told.old at (day_line day (dec_field second)) told.new result }
+pub fn tell(page: &mut Page, day: usize, second: u64)
+    ensures { Writes page.old (day_line day (dec_field second)) page.new }
 {
-    let a = text_digits::dec_number(&mut *told, at, day as u64);
-    let b = text_digits::dec_field(&mut *told, a, second);
-    put(told, b, 10)
+    day_line(page, day, &[second]);
 }
 
-// The first differing line of a day, by its number.
-fn tell_differing(told: &mut [u8], at: usize, day: usize, n: usize) -> usize
-    ensures { Wrote told.old at (day_line day (dec_field 1 ++ dec_field n)) told.new result }
+// The same, or the first differing line.
+#[tactic(auto, unfolding(replay_days::specs::Judged::verdict))]
+pub fn tell_verdict(page: &mut Page, day: usize, differing: Option<usize>)
+    ensures { Writes page.old (verdict day differing) page.new }
 {
-    let a = text_digits::dec_number(&mut *told, at, day as u64);
-    let b = text_digits::dec_field(&mut *told, a, 1);
-    let c = text_digits::dec_field(&mut *told, b, n as u64);
-    put(told, c, 10)
-}
-
-// The same, where n is 0; else the first differing line.
-pub fn tell_verdict(told: &mut [u8], at: usize, day: usize, n: usize) -> usize
-    ensures { Wrote told.old at (verdict day n) told.new result }
-{
-    if n == 0 {
-        tell(told, at, day, 0)
-    } else {
-        tell_differing(told, at, day, n)
+    match differing {
+        None => tell(page, day, 0),
+        Some(n) => day_line(page, day, &[1, n as u64]),
     }
 }
 
-// The number of the line that is missing where the recorded output ends, 0 where none is.
-pub fn end_number(p: Spot) -> usize
+// The number of the line that is missing where the recorded output ends, if one is.
+pub fn end_number(p: Spot) -> Option<usize>
     ensures { result ≡ end_number p }
 {
-    let number = p.number;
-    if p.start < p.len { number } else { 0 }
+    (p.start < p.len).then_some(p.number)
 }

@@ -4,6 +4,7 @@ use Prim.Native.Nat.{ℕ, ◌+◌}
 use mathlib.Core.Bool.{Bool, true, false}
 use mathlib.Core.List.{List, [], ◌∷◌, ◌++◌, append_assoc, append-nil}
 use mathlib.Core.Path.{◌≡◌, refl, sym, ◌∙◌, ap, ap₂}
+use Rattle.std.specs.Prelude.{Some}
 use Rattle.base_words.proofs.Pick.{never}
 use Rattle.text_output.specs.Output.{output}
 use Rattle.replay_days.specs.Judged.{compared, first_differing, input_of, judged_from, lines_of, only_d, only_z, record_of, verdict}
@@ -21,14 +22,14 @@ Left input recorded left n =
 
 -- the recorded lines differ at number n, whatever follows
 abbrev Differs : List ℕ → List (List ℕ) → ℕ → Type 0
-Differs input recorded n = (more : List (List ℕ)) → first_differing 1 (lines_of (output input)) (recorded ++ more) ≡ n
+Differs input recorded n = (more : List (List ℕ)) → first_differing 1 (lines_of (output input)) (recorded ++ more) ≡ Some n
 
 record Agree (ls : List (List ℕ)) : Type 0 where
   input : (day : ℕ) (x : List ℕ) → judged_from day (input_of x) ls ≡ tells_lines day (reading x) ls
   recorded : (day : ℕ) (x : List ℕ) (r left : List (List ℕ)) (n : ℕ) → Left x r left n
       → judged_from day (record_of x r) ls ≡ tells_lines day (comparing left n) ls
   differs : (day : ℕ) (x : List ℕ) (r : List (List ℕ)) (n : ℕ) → Differs x r n
-      → judged_from day (record_of x r) ls ≡ verdict day n ++ tells_lines day differing ls
+      → judged_from day (record_of x r) ls ≡ verdict day (Some n) ++ tells_lines day differing ls
 
 -- where the recorded output ends
 module _ (day : ℕ) (x : List ℕ) (r : List (List ℕ)) (n : ℕ) where
@@ -37,7 +38,7 @@ module _ (day : ℕ) (x : List ℕ) (r : List (List ℕ)) (n : ℕ) where
   ended [] at = ap (verdict day) (ap (first_differing 1 (lines_of (output x))) (sym (append-nil r)) ∙ at [])
   ended (m ∷ left) at = ap (verdict day) (ap (first_differing 1 (lines_of (output x))) (sym (append-nil r)) ∙ at [])
 
-  ended_off : Differs x r n → compared day x r ≡ verdict day n
+  ended_off : Differs x r n → compared day x r ≡ verdict day (Some n)
   unfolding compared
   ended_off off = ap (verdict day) (ap (first_differing 1 (lines_of (output x))) (sym (append-nil r)) ∙ off [])
 
@@ -71,7 +72,7 @@ module _ (l : List ℕ) (ls : List (List ℕ)) (on : Agree ls) (day : ℕ) (x : 
     recorded_by left at false false e f = rw (e, f) (on.differs day x (r ++ (l ∷ [])) n (differs_here x r n l left at f))
 
     differs_by : Differs x r n → (z : Bool) → only_z l ≡ z
-        → judged_from day (record_of x r) (l ∷ ls) ≡ verdict day n ++ tells_lines day differing (l ∷ ls)
+        → judged_from day (record_of x r) (l ∷ ls) ≡ verdict day (Some n) ++ tells_lines day differing (l ∷ ls)
     unfolding judged_from tells_lines line_tells day_after part_after
     differs_by off true e = rw e (ap₂ ◌++◌ (ended_off day x r n off) (on.input (day + 1) []))
     differs_by off false e = rw e (on.differs day x (r ++ (l ∷ [])) n (differs_on x r n l off))

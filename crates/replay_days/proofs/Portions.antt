@@ -1,5 +1,5 @@
 -- Portion after portion; and how much is told, of how many days. Assumes nothing.
-use Prim.Native.Nat.{ℕ, zero, suc, ◌+◌, ◌≤◌}
+use Prim.Native.Nat.{ℕ, suc, ◌+◌, ◌≤◌}
 use native.Mathlib.Nat.{suc-mul}
 use native.Mathlib.Omega.{arith}
 use mathlib.Core.Bool.{Bool, true, false, cond}
@@ -7,6 +7,7 @@ use mathlib.Core.List.{List, [], ◌∷◌, ◌++◌, append_assoc, append-nil}
 use mathlib.Core.Path.{◌≡◌, refl, ◌∙◌}
 use lib.Dec.{eqb}
 use lib.ListN.{length, length-append}
+use Rattle.std.specs.Prelude.{Option, None, Some}
 use Rattle.text_digits.specs.Digits.{dec_bytes, dec_field}
 use Rattle.text_digits.proofs.Lengths.{dec_field_lem}
 use Rattle.text_read.specs.Portions.{whole}
@@ -87,21 +88,21 @@ number_short : (n : ℕ) → length (dec_bytes n) ≤ 20
 unfolding dec_field
 number_short n = omega (arith, dec_field_lem n)
 
-verdict_short : (day n : ℕ) → length (verdict day n) ≤ 64
+verdict_short : (day : ℕ) (n : Option ℕ) → length (verdict day n) ≤ 64
 unfolding verdict day_line
-verdict_short day zero = simp length-append (omega (arith, number_short day, dec_field_lem 0))
-verdict_short day (suc n) = simp length-append (omega (arith, number_short day, dec_field_lem 1, dec_field_lem (suc n)))
+verdict_short day None = simp length-append (omega (arith, number_short day, dec_field_lem 0))
+verdict_short day (Some n) = simp length-append (omega (arith, number_short day, dec_field_lem 1, dec_field_lem n))
 
 ending_short : (day : ℕ) (left : List (List ℕ)) (n : ℕ) → length (ending day left n) ≤ 64
 unfolding ending
-ending_short day [] n = verdict_short day 0
-ending_short day (m ∷ left) n = verdict_short day n
+ending_short day [] n = verdict_short day None
+ending_short day (m ∷ left) n = verdict_short day (Some n)
 
 compared_short : (day : ℕ) (left : List (List ℕ)) (n : ℕ) (z m : Bool)
-    → length (cond z (ending day left n) (cond m [] (verdict day n))) ≤ 64
+    → length (cond z (ending day left n) (cond m [] (verdict day (Some n)))) ≤ 64
 compared_short day left n true m = ending_short day left n
 compared_short day left n false true = omega arith
-compared_short day left n false false = verdict_short day n
+compared_short day left n false false = verdict_short day (Some n)
 
 pub line_short : (day : ℕ) (p : Part) (l : List ℕ) → length (line_tells day p l) ≤ 64
 unfolding line_tells

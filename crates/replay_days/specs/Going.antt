@@ -1,6 +1,6 @@
 -- `judged`, byte after byte, with no more kept than what is still needed: of the input its bytes, of the output its lines that have not been
 -- met yet. A day's line is told where the first line that differs has ended, or else where the day ends. Assumes nothing.
-use Rattle.std.specs.Prelude.{ℕ, ◌+◌, Bool, false, List, [], ◌∷◌, ◌++◌, eqb, length}
+use Rattle.std.specs.Prelude.{ℕ, ◌+◌, Bool, false, List, [], ◌∷◌, ◌++◌, None, Some, eqb, length}
 use Rattle.base_words.specs.Choice.{if◌then◌otherwise◌}
 use Rattle.text_output.specs.Output.{output}
 use Rattle.replay_days.specs.Judged.{lines_of, no_d, only_d, only_z, same, verdict}
@@ -29,8 +29,8 @@ rest_of (next ∷ left) = left
 
 -- the day's line where the recorded output ends: the same if no line is left, else the next one is missing
 unfoldable pub ending : ℕ → List (List ℕ) → ℕ → List ℕ
-ending day [] n = verdict day 0
-ending day (missing ∷ left) n = verdict day n
+ending day [] n = verdict day None
+ending day (missing ∷ left) n = verdict day (Some n)
 
 -- the part after a line: of the same day, or of the next where the line ended the day
 unfoldable pub part_after : Part → List ℕ → Part
@@ -48,7 +48,7 @@ day_after day differing line = if only_z line then day + 1 otherwise day
 unfoldable pub line_tells : ℕ → Part → List ℕ → List ℕ
 line_tells day (reading input) line = []
 line_tells day (comparing left n) line =
-    if only_z line then ending day left n otherwise if meets line left then [] otherwise verdict day n
+    if only_z line then ending day left n otherwise if meets line left then [] otherwise verdict day (Some n)
 line_tells day differing line = []
 
 -- what the end of the file tells, after whole lines

@@ -1,5 +1,5 @@
 -- Document 02, E1: from the bytes of a file of recorded nights to the bytes that are written of it. Assumes nothing.
-use Rattle.std.specs.Prelude.{ℕ, zero, suc, ◌+◌, Bool, true, false, ◌&&◌, List, [], ◌∷◌, ◌++◌, eqb, length}
+use Rattle.std.specs.Prelude.{ℕ, ◌+◌, Bool, true, false, ◌&&◌, List, [], ◌∷◌, ◌++◌, Option, None, Some, eqb, length}
 use Rattle.base_words.specs.Choice.{if◌then◌otherwise◌}
 use Rattle.text_digits.specs.Digits.{dec_bytes, dec_field}
 use Rattle.text_output.specs.Output.{output}
@@ -27,21 +27,21 @@ unfoldable pub only_z : List ℕ → Bool
 only_z line = same line (90 ∷ [])
 
 -- "the number of the first differing output line. A missing or surplus line differs at its own number": the output's lines and the recorded
--- ones from number n on; 0 where none differs
-unfoldable pub first_differing : ℕ → List (List ℕ) → List (List ℕ) → ℕ
-first_differing n [] [] = 0
-first_differing n [] (surplus ∷ recorded) = n
-first_differing n (missing ∷ lines) [] = n
-first_differing n (line ∷ lines) (r ∷ recorded) = if same line r then first_differing (n + 1) lines recorded otherwise n
+-- ones from number n on, if any differs
+unfoldable pub first_differing : ℕ → List (List ℕ) → List (List ℕ) → Option ℕ
+first_differing n [] [] = None
+first_differing n [] (surplus ∷ recorded) = Some n
+first_differing n (missing ∷ lines) [] = Some n
+first_differing n (line ∷ lines) (r ∷ recorded) = if same line r then first_differing (n + 1) lines recorded otherwise Some n
 
 -- "one line a day, fields parted by a tab": the day's number, and the other fields, each after its tab
 unfoldable pub day_line : ℕ → List ℕ → List ℕ
 day_line day fields = dec_bytes day ++ fields ++ (10 ∷ [])
 
 -- "0 if the recorded output is the same, otherwise 1 and the number of the first differing output line"
-unfoldable pub verdict : ℕ → ℕ → List ℕ
-verdict day zero = day_line day (dec_field 0)
-verdict day (suc n) = day_line day (dec_field 1 ++ dec_field (suc n))
+unfoldable pub verdict : ℕ → Option ℕ → List ℕ
+verdict day None = day_line day (dec_field 0)
+verdict day (Some n) = day_line day (dec_field 1 ++ dec_field n)
 
 -- "It runs each input": the input's bytes, and the recorded lines
 unfoldable pub compared : ℕ → List ℕ → List (List ℕ) → List ℕ

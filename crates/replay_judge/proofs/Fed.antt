@@ -27,7 +27,7 @@ module _ (j : Judge) (input : Buffers) (out told : List ℕ) (at : ℕ) (s : Lis
   free = line_free s i end at_end
 
   pub goes_on : at ≤ length told → end ≡ length s
-      → TurnsTo j input out told at s i (record { judge = judge; at = at; next = end }) input1 out told
+      → TurnsTo j input out told at s i (record { judge = judge; next = end }) input1 out told at
   goes_on room e = record {
     turns = record {
       tells = record { wrote = λ g st few. rw (run_tells (take (end - i) (drop i s)) g free) (nothing told at room); within = room };
@@ -39,7 +39,7 @@ module _ (j : Judge) (input : Buffers) (out told : List ℕ) (at : ℕ) (s : Lis
 
   pub ends : (end ≡ length s → ⊥) → end ≤ length s → {t : Turned} {input2 : Buffers} {out2 told2 : List ℕ}
       → EndsLine judge input1 out told at t input2 out2 told2
-      → TurnsTo j input out told at s i (record { judge = t.judge; at = t.at; next = end + 1 }) input2 out2 told2
+      → TurnsTo j input out told at s i (record { judge = t.judge; next = end + 1 }) input2 out2 told2 t.at
   ends p q d = record {
     turns = record {
       tells = record {
@@ -69,14 +69,9 @@ module _ (j : Judge) (input : Buffers) (out told s : List ℕ) where
     goes = λ g st few. st;
   }
 
-  -- what was told ends in the buffer
-  pub at_room : (i : ℕ) {judge : Judge} {at : ℕ} {input' : Buffers} {out' told' : List ℕ} → length told' ≡ length told
-      → FirstFed j input out told s i judge at input' out' told' → at ≤ length told'
-  at_room i long f = omega (arith, f.tells.within, long)
-
   module _ (i : ℕ) {judge : Judge} {at : ℕ} {input' : Buffers} {out' told' : List ℕ}
-      (f : FirstFed j input out told s i judge at input' out' told') {r : Turn} {input2 : Buffers} {out2 told2 : List ℕ}
-      (t : TurnsTo judge input' out' told' at s i r input2 out2 told2) where
+      (f : FirstFed j input out told s i judge at input' out' told') {r : Turn} {input2 : Buffers} {out2 told2 : List ℕ} {at2 : ℕ}
+      (t : TurnsTo judge input' out' told' at s i r input2 out2 told2 at2) where
     -- the bytes up to the turn's
     so_far : take r.next s ≡ take i s ++ take (r.next - i) (drop i s)
     so_far = let e : i + (r.next - i) ≡ r.next = omega (arith, t.on) in rw e at (take-add i (r.next - i) s)
@@ -85,7 +80,7 @@ module _ (j : Judge) (input : Buffers) (out told s : List ℕ) where
     few_more : (g : Going) → g.day + r.next ≤ largest → (feeds g (take i s)).day + 1 ≤ largest
     few_more g few = omega (arith, days_few g (take i s), length-take i s, t.on)
 
-    pub one_fed : length told' ≡ length told → FirstFed j input out told s r.next r.judge r.at input2 out2 told2
+    pub one_fed : length told' ≡ length told → FirstFed j input out told s r.next r.judge at2 input2 out2 told2
     one_fed long = record {
       tells = record {
         wrote = λ g st few.

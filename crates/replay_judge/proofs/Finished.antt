@@ -3,9 +3,10 @@ use Prim.Native.Nat.{ℕ, ◌+◌, ◌≤◌, ◌<◌}
 use native.Mathlib.Omega.{arith}
 use mathlib.Core.Bool.{Bool, true, false, not}
 use mathlib.Core.List.{List, [], ◌∷◌}
-use mathlib.Core.Path.{◌≡◌, refl, sym, ◌∙◌, subst}
+use mathlib.Core.Path.{◌≡◌, refl, sym, ◌∙◌, subst, ap}
 use lib.Dec.{eqb}
 use lib.ListN.{length}
+use Rattle.std.specs.Prelude.{Option}
 use Rattle.base_words.proofs.Pick.{never}
 use Rattle.base_places.specs.Lengths.{largest}
 use Rattle.text_digits.specs.Digits.{dec_field}
@@ -18,8 +19,8 @@ use Rattle.replay_days.specs.Going.{Going, end_tells, feeds, finish, line_ended,
 use Rattle.replay_days.proofs.Bytes.{byte_by_byte}
 use Rattle.replay_days.proofs.Portions.{days_few, finish_short}
 use Rattle.replay_compare.specs.Spots.{end_number, shape_of}
-use Rattle.replay_judge.specs.Carried.{Buffers, is_empty, unfed}
-use Rattle.replay_judge.specs.Stands.{Begins, EndsDay, EndsLine, Finishes, Portion, Stands, StandsPart, Tells}
+use Rattle.replay_judge.specs.Carried.{Buffers, unfed}
+use Rattle.replay_judge.specs.Stands.{Begins, EndsDay, EndsLine, Finishes, Portion, StandsPart, Tells}
 use Rattle.replay_judge.specs.declared.Feeding.{Feeding}
 use Rattle.replay_judge.specs.declared.Judge.{Judge}
 use Rattle.replay_compare.specs.declared.LineSoFar.TheVariants.{Empty}
@@ -75,7 +76,7 @@ module _ (j : Judge) (told : List ℕ) (at : ℕ) where
         in_input (λ q. Wrote told at (end_tells j.day q) told' at') input out [] f
         (λ x v. rw (some_by (eqb (length x) 0) v.any z) w) q s)
 
-  pub last_verdict : {p : Spot} {told' : List ℕ} {n at' : ℕ} → j.part ≡ Comparing p → n ≡ end_number p
+  pub last_verdict : {p : Spot} {told' : List ℕ} {n : Option ℕ} {at' : ℕ} → j.part ≡ Comparing p → n ≡ end_number p
       → Wrote told at (verdict j.day n) told' at' → EndsDay j told at told' at'
   unfolding end_tells
   last_verdict {p} {told'} {n} {at'} e is w =
@@ -91,37 +92,33 @@ module _ (j : Judge) (told : List ℕ) (at : ℕ) where
       (λ input out q s. in_differing (λ q. Wrote told at (end_tells j.day q) told at) input out [] (nothing told at h) q s)
 
 -- whether there is a last line without byte 10
-shape_empty : (l : List ℕ) → eqb (length l) 0 ≡ is_empty (shape_of l)
-shape_empty [] = refl
-shape_empty (b ∷ []) = refl
-shape_empty (b ∷ c ∷ l) = some [] b (c ∷ l)
+none_of : (l : List ℕ) → shape_of l ≡ Empty → l ≡ []
+none_of [] e = refl
+none_of (b ∷ []) e = cc
+none_of (b ∷ c ∷ l) e = cc
 
-empty_by : (j : Judge) (input : Buffers) (out : List ℕ) (g : Going) → Stands j input out g → eqb (length g.line) 0 ≡ is_empty j.line
-empty_by j input out g s = rw s.line (shape_empty g.line)
-
-none_of : (l : List ℕ) → eqb (length l) 0 ≡ true → l ≡ []
-none_of [] z = refl
-none_of (b ∷ l) z = never (sym z ∙ some [] b l)
+some_of : (l : List ℕ) → (shape_of l ≡ Empty → ⊥) → eqb (length l) 0 ≡ false
+some_of [] e = absurd (e refl)
+some_of (b ∷ l) e = some [] b l
 
 module _ (j : Judge) (input : Buffers) (out told : List ℕ) (at : ℕ) {told' : List ℕ} {at' : ℕ} where
-  pub no_last_line : {t : Bool} → t ≡ is_empty j.line → t ≡ true → EndsDay j told at told' at'
-      → Tells j input out told at 1 finish told' at'
+  pub no_last_line : j.line ≡ Empty → EndsDay j told at told' at' → Tells j input out told at 1 finish told' at'
   unfolding finish
-  no_last_line e f d = record {
+  no_last_line e d = record {
     wrote = λ g s few.
-        let z : eqb (length g.line) 0 ≡ true = empty_by j input out g s ∙ sym e ∙ f in
-        rw z (d.wrote input out g s (none_of g.line z));
+        let none : g.line ≡ [] = none_of g.line (sym s.line ∙ e) in
+        rw (ap (λ (l : List ℕ). eqb (length l) 0) none) (d.wrote input out g s none);
     within = d.within;
   }
 
   -- the line, and then the end
-  pub last_line : {t : Bool} {r : Turned} {input' : Buffers} {out' told1 : List ℕ} → t ≡ is_empty j.line → t ≡ false → length told1 ≡ length told
+  pub last_line : {r : Turned} {input' : Buffers} {out' told1 : List ℕ} → (j.line ≡ Empty → ⊥) → length told1 ≡ length told
       → EndsLine j input out told at r input' out' told1 → EndsDay r.judge told1 r.at told' at'
       → Tells j input out told at 1 finish told' at'
   unfolding finish line_ended
-  last_line {input' = input'} {out' = out'} e f same ends d = record {
+  last_line {input' = input'} {out' = out'} some same ends d = record {
     wrote = λ g s few.
-        let z : eqb (length g.line) 0 ≡ false = empty_by j input out g s ∙ sym e ∙ f in
+        let z : eqb (length g.line) 0 ≡ false = some_of g.line (λ e. some (s.line ∙ e)) in
         rw z (then (ends.tells.wrote g s few) (d.wrote input' out' (line_ended g) (ends.goes g s few) refl));
     within = omega (arith, d.within, same);
   }

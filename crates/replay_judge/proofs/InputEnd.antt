@@ -6,7 +6,7 @@ use mathlib.Core.List.{List, [], ◌∷◌, ◌++◌, append-nil}
 use mathlib.Core.Path.{◌≡◌, refl, sym, ◌∙◌, ap}
 use lib.Dec.{eqb}
 use lib.ListN.{length, length-take, take}
-use Rattle.base_words.proofs.Pick.{never}
+use Rattle.std.specs.Prelude.{Some}
 use Rattle.text_line.specs.Night.{of_program}
 use Rattle.text_line.specs.Filled.{Cells, room_of}
 use Rattle.text_read.specs.Text.{feeds, unread}
@@ -47,7 +47,7 @@ lines_few (b ∷ s) line = by (eqb b 10) refl (lines_few s [])
 -- the D: the output stands in its buffer, from its first line on
 module _ (x out' : List ℕ) (len : ℕ) where
   fresh : len ≡ length (output x) → take len out' ≡ output x
-      → Meets (record { len = len; start = 0; at = 0; on = true; number = 1 }) out' [] (lines_of (output x)) 1
+      → Meets (record { len = len; start = 0; at = Some 0; number = 1 }) out' [] (lines_of (output x)) 1
   unfolding lines_of
   fresh many told =
       let l : length (take len out') ≡ min len (length out') = length-take len out' in
@@ -55,20 +55,20 @@ module _ (x out' : List ℕ) (len : ℕ) where
       record {
         len = omega (arith, many, l, k);
         start = rw told;
-        on = λ on. rw told;
-        off = λ off. never off;
+        on = λ at now. let here : 0 ≡ at = cc in rw (← here, told);
+        off = λ now. cc;
         number = refl;
         few = omega (arith, lines_few (output x) [], output_fits x);
       }
 
-pub at_d : (line : LineSoFar) (f : Feeding) (input : Buffers) (out : List ℕ) {t : Bool} {k : Reader} {w' : Cells} {out' : List ℕ} {len : ℕ}
+pub at_d : (line : LineSoFar) (f : Feeding) (input : Buffers) (out : List ℕ) {t : Bool} {k : Reader} {line' : List ℕ} {w' : Cells} {out' : List ℕ} {len : ℕ}
     (after : Buffers) → t ≡ holds_only line 68 → t ≡ true → room_of input.tables ≡ of_program
-    → Ends f.reader input.line input.tables k input.line w' → AnsweredRead k w' out out' len
-    → EndsInput line f input out (Comparing (record { len = len; start = 0; at = 0; on = true; number = 1 })) after out'
+    → Ends f.reader input.line input.tables k line' w' → AnsweredRead k w' out out' len
+    → EndsInput line f input out (Comparing (record { len = len; start = 0; at = Some 0; number = 1 })) after out'
 unfolding part_after StandsPart
-at_d line f input out {k = k} {out' = out'} {len = len} after e d room ended v x l is h =
+at_d line f input out {k = k} {line' = line'} {out' = out'} {len = len} after e d room ended v x l is h =
     let only : only_d l ≡ true = sym (is_d l is e) ∙ d in
     let start : reading_in f.reader input.line input.tables ≡ capped_in (going (feeds (room_of input.tables) unread x)) =
     h.carried ∙ rw (only, append-nil) in
-    let told : Answered x out out' len = v.whole x input.line (rw room at (fed_whole x start ended)) in
+    let told : Answered x out out' len = v.whole x line' (rw room at (fed_whole x start ended)) in
     rw only (fresh x out' len told.many told.told)

@@ -1,4 +1,3 @@
-pub mod Cases
 pub mod Following
 pub mod WhatLine
 pub mod InputEnd

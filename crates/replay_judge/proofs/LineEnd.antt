@@ -5,6 +5,7 @@ use mathlib.Core.Bool.{Bool, true, false}
 use mathlib.Core.List.{List, []}
 use mathlib.Core.Path.{◌≡◌, refl, sym, ◌∙◌, subst}
 use lib.ListN.{length, take}
+use Rattle.std.specs.Prelude.{Option, None, Some}
 use Rattle.base_places.specs.Lengths.{largest, one_more}
 use Rattle.text_digits.specs.Wrote.{Wrote}
 use Rattle.text_digits.proofs.Then.{as_long, nothing, room}
@@ -15,13 +16,10 @@ use Rattle.replay_compare.specs.Spots.{end_number, holds_only, met_by, next_of, 
 use Rattle.replay_compare.specs.Meets.{Meets}
 use Rattle.replay_compare.specs.declared.LineSoFar.{LineSoFar}
 use Rattle.replay_compare.specs.declared.LineSoFar.TheVariants.{Empty}
-use Rattle.replay_compare.specs.declared.Meeting.{Meeting}
-use Rattle.replay_compare.specs.declared.Meeting.TheVariants.{Line as NextLine, Other}
-use Rattle.replay_compare.specs.declared.Next.{Next}
 use Rattle.replay_compare.specs.declared.Spot.{Spot}
 use Rattle.replay_compare.proofs.Beside.{Beside, IsNext, end_beside, line_beside}
 use Rattle.replay_judge.specs.Carried.{Buffers, differing_after, next_day, next_line, unfed}
-use Rattle.replay_judge.specs.Stands.{EndsComparing, EndsInput, EndsLine, Follows, StandsPart}
+use Rattle.replay_judge.specs.Stands.{EndsComparing, EndsInput, EndsLine, Follows, StandsPart, turned}
 use Rattle.replay_judge.specs.declared.Feeding.{Feeding}
 use Rattle.replay_judge.specs.declared.Judge.{Judge}
 use Rattle.replay_judge.specs.declared.Part.{Part}
@@ -91,7 +89,7 @@ input_ends day line f input out told at next input' out' h e = record {
 
 -- after a line that differed nothing is told
 module _ (day : ℕ) (line : LineSoFar) (input : Buffers) (out told : List ℕ) (at : ℕ) (h : at ≤ length told) where
-  pub differing_ends_by : (z : Bool) → holds_only line 90 ≡ z → PartEnds day line Differing input out told at (differing_after day line at) input out told
+  pub differing_ends_by : (z : Bool) → holds_only line 90 ≡ z → PartEnds day line Differing input out told at (turned (differing_after day line) at) input out told
   unfolding line_tells day_after part_after StandsPart
   differing_ends_by true e =
       let z : (l : List ℕ) → line ≡ shape_of l → only_z l ≡ true = λ l is. sym (is_z l is refl) ∙ e in
@@ -115,7 +113,7 @@ module _ (day : ℕ) (line : LineSoFar) (input : Buffers) (out told : List ℕ) 
         goes = λ q l is. in_differing (λ q. StandsPart Differing input out (part_after q l) []) input out l (rw (z l is) tt) q;
       })
 
-  pub differing_ends : PartEnds day line Differing input out told at (differing_after day line at) input out told
+  pub differing_ends : PartEnds day line Differing input out told at (turned (differing_after day line) at) input out told
   differing_ends = differing_ends_by (holds_only line 90) refl
 
 -- a recorded line, before any that differs
@@ -123,7 +121,7 @@ module _ (day : ℕ) (line : LineSoFar) (p : Spot) (input : Buffers) (out told :
   -- the Z
   pub at_z : {t : Bool} {told' : List ℕ} {after : ℕ} → t ≡ holds_only line 90 → t ≡ true
       → Wrote told at (verdict day (end_number p)) told' after
-      → PartEnds day line (Comparing p) input out told at (next_day day after) input out told'
+      → PartEnds day line (Comparing p) input out told at (turned (next_day day) after) input out told'
   unfolding line_tells day_after part_after StandsPart
   at_z {t} {told'} {after} e f w =
       let z : (l : List ℕ) → line ≡ shape_of l → only_z l ≡ true = λ l is. sym (is_z l is e) ∙ f in
@@ -139,22 +137,21 @@ module _ (day : ℕ) (line : LineSoFar) (p : Spot) (input : Buffers) (out told :
             in_comparing (λ q. StandsPart (Input unfed) input out (part_after q l) []) input out l p (λ left k m. rw (z l is) (unfed_follows input)) q;
       }
 
-  module _ {t : Bool} (e : t ≡ holds_only line 90) (f : t ≡ false) {next : Next} (n : next ≡ next_of (take p.len out) p.at)
-      {meeting : Meeting} (met : meeting ≡ met_by p next line) where
+  module _ {t : Bool} (e : t ≡ holds_only line 90) (f : t ≡ false) {next : Option (ℕ × ℕ)} (n : next ≡ next_of (take p.len out) p.at) where
     z : (l : List ℕ) → line ≡ shape_of l → only_z l ≡ false
     z l is = sym (is_z l is e) ∙ f
 
-    beside : (l : List ℕ) → line ≡ shape_of l → (left : List (List ℕ)) (k : ℕ) → Meets p out l left k
-        → Beside p.len p.number out l left k meeting
-    beside l is left k m = rw (met, n, is) (line_beside p out l left k m)
+    beside : {meeting : Option ℕ} → meeting ≡ met_by p next line → (l : List ℕ) → line ≡ shape_of l → (left : List (List ℕ)) (k : ℕ)
+        → Meets p out l left k → Beside p.len p.number out l left k meeting
+    beside met l is left k m = rw (met, n, is) (line_beside p out l left k m)
 
     -- the output's next line
-    pub at_next : {start : ℕ} → meeting ≡ NextLine start → at ≤ length told
-        → PartEnds day line (Comparing p) input out told at (next_line day p start at) input out told
+    pub at_next : {start : ℕ} → Some start ≡ met_by p next line → at ≤ length told
+        → PartEnds day line (Comparing p) input out told at (turned (next_line day p start) at) input out told
     unfolding line_tells day_after part_after StandsPart
-    at_next {start} is_next h =
+    at_next {start} met h =
         let b : (l : List ℕ) → line ≡ shape_of l → (left : List (List ℕ)) (k : ℕ) → Meets p out l left k
-        → IsNext p.len p.number out l left k start = λ l is left k m. rw is_next at (beside l is left k m) in
+        → IsNext p.len p.number out l left k start = λ l is left k m. beside met l is left k m in
         record {
           wrote = λ q l is.
               in_comparing (λ q. Wrote told at (line_tells day q l) told at) input out l p
@@ -163,18 +160,18 @@ module _ (day : ℕ) (line : LineSoFar) (p : Spot) (input : Buffers) (out told :
           next = λ q l is s few. in_comparing (λ q. day ≡ day_after day q l) input out l p (λ left k m. rw (z l is)) q s;
           none = refl;
           goes = λ q l is.
-              in_comparing (λ q. StandsPart (next_line day p start at).judge.part input out (part_after q l) []) input out l p
+              in_comparing (λ q. StandsPart (next_line day p start).part input out (part_after q l) []) input out l p
               (λ left k m. rw (z l is, (b l is left k m).next) (b l is left k m).spot) q;
         }
 
     -- a line that differs
-    pub at_other : {told' : List ℕ} {after : ℕ} → meeting ≡ Other → Wrote told at (verdict day p.number) told' after
+    pub at_other : {told' : List ℕ} {after : ℕ} → None ≡ met_by p next line → Wrote told at (verdict day (Some p.number)) told' after
         → PartEnds day line (Comparing p) input out told at
         (record { judge = record { day = day; line = Empty; part = Differing }; at = after }) input out told'
     unfolding line_tells day_after part_after StandsPart
-    at_other {told'} {after} other w =
+    at_other {told'} {after} met w =
         let b : (l : List ℕ) → line ≡ shape_of l → (left : List (List ℕ)) (k : ℕ) → Meets p out l left k → meets l left ≡ false =
-        λ l is left k m. rw other at (beside l is left k m) in
+        λ l is left k m. beside met l is left k m in
         record {
           wrote = λ q l is.
               in_comparing (λ q. Wrote told at (line_tells day q l) told' after) input out l p
@@ -194,19 +191,19 @@ module _ (day : ℕ) (line : LineSoFar) (p : Spot) (out told : List ℕ) (at : �
   ends_comparing {r} {told'} e input =
       part_ends (record { day = day; line = line; part = Comparing p }) input out told at r input out told' (e input)
 
-  pub z_ends : {t : Bool} {r : Turned} {told' : List ℕ} {n after : ℕ} → t ≡ holds_only line 90 → t ≡ true → n ≡ end_number p
-      → Wrote told at (verdict day n) told' after → r ≡ next_day day after → EndsComparing day line p out told at r told'
+  pub z_ends : {t : Bool} {r : Judge} {told' : List ℕ} {n : Option ℕ} {after : ℕ} → t ≡ holds_only line 90 → t ≡ true → n ≡ end_number p
+      → Wrote told at (verdict day n) told' after → r ≡ next_day day → EndsComparing day line p out told at (turned r after) told'
   z_ends e f n w r = ends_comparing (λ input. rw r (at_z day line p input out told at e f (rw n at w)))
 
-  module _ {t : Bool} (e : t ≡ holds_only line 90) (f : t ≡ false) {next : Next} (n : next ≡ next_of (take p.len out) p.at)
-      {meeting : Meeting} (met : meeting ≡ met_by p next line) where
-    pub next_ends : {r : Turned} {start : ℕ} → meeting ≡ NextLine start → r ≡ next_line day p start at → at ≤ length told
-        → EndsComparing day line p out told at r told
-    next_ends is r h = ends_comparing (λ input. rw r (at_next day line p input out told at e f n met is h))
+  module _ {t : Bool} (e : t ≡ holds_only line 90) (f : t ≡ false) {next : Option (ℕ × ℕ)} (n : next ≡ next_of (take p.len out) p.at)
+      {meeting : Option ℕ} (met : meeting ≡ met_by p next line) where
+    pub next_ends : {r : Judge} {start : ℕ} → meeting ≡ Some start → r ≡ next_line day p start → at ≤ length told
+        → EndsComparing day line p out told at (turned r at) told
+    next_ends is r h = ends_comparing (λ input. rw r (at_next day line p input out told at e f n (sym is ∙ met) h))
 
-    pub other_ends : {told' : List ℕ} {after : ℕ} → meeting ≡ Other → Wrote told at (verdict day p.number) told' after
+    pub other_ends : {told' : List ℕ} {after : ℕ} → meeting ≡ None → Wrote told at (verdict day (Some p.number)) told' after
         → EndsComparing day line p out told at (record { judge = record { day = day; line = Empty; part = Differing }; at = after }) told'
-    other_ends is w = ends_comparing (λ input. at_other day line p input out told at e f n met is w)
+    other_ends is w = ends_comparing (λ input. at_other day line p input out told at e f n (sym is ∙ met) w)
 
 module _ (j : Judge) (input : Buffers) (out told : List ℕ) (at : ℕ) where
   pub input_line : {f : Feeding} {next : Part} {input' : Buffers} {out' : List ℕ} → j.part ≡ Input f → at ≤ length told
@@ -220,7 +217,7 @@ module _ (j : Judge) (input : Buffers) (out told : List ℕ) (at : ℕ) where
   comparing_line {p} {r} {told'} e v =
       subst (λ (x : Part). EndsLine (record { day = j.day; line = j.line; part = x }) input out told at r input out told') (sym e) (v input)
 
-  pub differing_line : {r : Turned} → j.part ≡ Differing → at ≤ length told → r ≡ differing_after j.day j.line at
-      → EndsLine j input out told at r input out told
+  pub differing_line : {r : Judge} → j.part ≡ Differing → at ≤ length told → r ≡ differing_after j.day j.line
+      → EndsLine j input out told at (turned r at) input out told
   differing_line {r} e h is =
-      part_ends j input out told at r input out told (rw (is, e) (differing_ends j.day j.line input out told at h))
+      part_ends j input out told at (turned r at) input out told (rw (is, e) (differing_ends j.day j.line input out told at h))

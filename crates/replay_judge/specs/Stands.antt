@@ -74,6 +74,10 @@ pub record Turns (j : Judge) (input : Buffers) (out told : List ℕ) (at k : ℕ
   pub tells : Tells j input out told at k says told' r.at
   pub goes : (g : Going) → Stands j input out g → g.day + k ≤ largest → Stands r.judge input' out' (next g)
 
+-- what is carried on, and the place after what was told
+abbrev pub turned : Judge → ℕ → Turned
+turned judge at = record { judge = judge; at = at }
+
 -- the line ended
 abbrev pub EndsLine : Judge → Buffers → List ℕ → List ℕ → ℕ → Turned → Buffers → List ℕ → List ℕ → Type 0
 EndsLine j input out told at r input' out' told' =
@@ -121,9 +125,9 @@ Portion j input out told s r input' out' told' =
 
 -- of s the bytes from i to where the turn says were read
 pub record TurnsTo (j : Judge) (input : Buffers) (out told : List ℕ) (at : ℕ) (s : List ℕ) (i : ℕ) (r : Turn) (input' : Buffers)
-    (out' told' : List ℕ) : Type 0 where
+    (out' told' : List ℕ) (at' : ℕ) : Type 0 where
   pub turns : Turns j input out told at 1 (λ g. feeds g (take (r.next - i) (drop i s))) (λ g. tells g (take (r.next - i) (drop i s)))
-      (record { judge = r.judge; at = r.at }) input' out' told'
+      (turned r.judge at') input' out' told'
   pub on : i < r.next
   pub within : r.next ≤ length s
 

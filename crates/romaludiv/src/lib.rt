@@ -2,20 +2,20 @@
 // between its calls. The crate romaludiv_c exports the four public functions.
 #![tactic(auto)]
 
-ghost use Rattle.std.specs.Prelude.{◌≡◌, ◌≤◌};
+ghost use Rattle.std.specs.Prelude.{◌≡◌};
 ghost use Rattle.list_rules.specs.Sweep.{tables};
 ghost use Rattle.call_rules.specs.Call.{end as Call·end};
 ghost use Rattle.call_rules.specs.Call.{lend};
 ghost use Rattle.call_rules.specs.Demands.{Demand2};
 ghost use Rattle.text_line.specs.Filled.{Sane, cells};
 ghost use Rattle.text_read.specs.Carried.{Begins, Ends, Takes, fresh};
-ghost use Rattle.romaludiv.specs.Words.{bit as Words·bit};
-ghost use Rattle.romaludiv.specs.Words.{Counted, bad_word, came_of, largest_reason, place_number, place_of, reader_of, reason_word, words_of};
+ghost use Rattle.romaludiv.specs.Words.{CountedIn, came_of, place_number, place_of, reader_of, words_of};
 
 use base_places::MOST_IN_LINE;
 use call::call;
-use text_line::{Place, State};
-use text_read::{Came, Reader, begin, end, portion, within};
+use text_fields::Counts;
+use text_line::{Place, State, Tables};
+use text_read::{Reader, begin, end, portion, within};
 
 // As `call::call`: the result is the number that refuses the whole call, or 0; how many steps were done and how many
 // of those were refused go out through the last two parameters.
@@ -31,19 +31,29 @@ pub fn romaludiv_call(
 ) -> u16
     ensures { Demand2 (lend (tables bodies.old numbers.now floats.old) steps.now room.old) budget (Call·end result done.new refused.new (tables bodies.new numbers.now floats.new) room.new) }
 {
-    let report = call(bodies, numbers, floats, steps, room, budget);
-    *done = report.done;
-    *refused = report.refused;
-    report.refusal
+    match call(bodies, numbers, floats, steps, room, budget) {
+        Ok(ended) => {
+            *done = ended.done;
+            *refused = ended.refused;
+            0
+        }
+        Err(refusal) => {
+            *done = 0;
+            *refused = 0;
+            u16::from(refusal)
+        }
+    }
 }
 
 // A reader crosses to the host as so many words, in the order that specs/Words.antt says. A host can put anything into its
 // memory, and a word, unlike a bool or an enum, holds anything.
 pub const WORDS: usize = 10;
 
-const LARGEST_REASON: usize = 255;
+const LARGEST_REASON: usize = u8::MAX as usize;
 
-// Any number past the places is the last one.
+// Any number past the places is the last one. A function and no `From`, as those below: the types are those of the crates
+// below, which know nothing of a host's words.
+#[tactic(auto, using(crate::proofs::Keeping::past_places), unfolding(crate::specs::Words::place_of))]
 fn place_of(n: usize) -> Place
     ensures { result ≡ place_of n }
 {
@@ -61,62 +71,28 @@ fn place_of(n: usize) -> Place
 fn place_number(p: Place) -> usize
     ensures { result ≡ place_number p }
 {
-    match p {
-        Place::Bodies => 0,
-        Place::NormalA => 1,
-        Place::TangentA => 2,
-        Place::NormalB => 3,
-        Place::TangentB => 4,
-        Place::Contacts => 5,
-        Place::Steps => 6,
-    }
+    p as usize
 }
 
-// Whether a line was bad, and why; a reason past a byte is the largest byte.
-fn came_of(bad: usize, reason: usize) -> Came
+// Why a line was bad, if one was; a reason past a byte is the largest byte.
+fn came_of(bad: usize, reason: usize) -> Option<u8>
     ensures { result ≡ came_of bad reason }
 {
     if bad == 0 {
-        return Came::Fine;
-    }
-    if reason < LARGEST_REASON {
-        return Came::Bad(reason as u8);
-    }
-    Came::Bad(255)
-}
-
-fn bit(b: bool) -> usize
-    ensures { result ≡ Words·bit b }
-{
-    if b { 1 } else { 0 }
-}
-
-fn bad_word(c: Came) -> usize
-    ensures { result ≡ bad_word c }
-{
-    match c {
-        Came::Fine => 0,
-        Came::Bad(_) => 1,
-    }
-}
-
-fn reason_word(c: Came) -> usize
-    ensures value { result ≡ reason_word c }
-    ensures upper_bound { result ≤ largest_reason }
-{
-    match c {
-        Came::Fine => 0,
-        Came::Bad(reason) => reason as usize,
+        None
+    } else {
+        Some(reason.min(LARGEST_REASON) as u8)
     }
 }
 
 // The reader that any words are.
+#[tactic(auto, unfolding(crate::specs::Words::reader_of))]
 fn reader_of(words: &[usize; WORDS]) -> Reader
     ensures { result ≡ reader_of words.now }
 {
     Reader {
         over: words[0] != 0,
-        came: came_of(words[1], words[2]),
+        bad: came_of(words[1], words[2]),
         number: words[3],
         st: State {
             place: place_of(words[4]),
@@ -134,37 +110,27 @@ fn words_of(k: Reader) -> [usize; WORDS]
     ensures value { result ≡ words_of k }
     ensures result_value { reader_of result ≡ k }
 {
-    let st = k.st;
-    let place = st.place;
-    let came = k.came;
-    let over = k.over;
     [
-        bit(over),
-        bad_word(came),
-        reason_word(came),
+        usize::from(k.over),
+        usize::from(k.bad.is_some()),
+        usize::from(k.bad.unwrap_or(0)),
         k.number,
-        place_number(place),
-        st.bodies,
-        st.numbers,
-        st.floats,
-        st.steps,
+        place_number(k.st.place),
+        k.st.bodies,
+        k.st.numbers,
+        k.st.floats,
+        k.st.steps,
         k.len,
     ]
 }
 
-// What a reader carries, with no count past its table's end.
-fn counted(k: Reader, bodies: &[u32], numbers: &[u16], floats: &[u32], steps: &[u16]) -> Reader
-    ensures { Counted k (cells bodies.now numbers.now floats.now steps.now) result }
+// What a reader carries, with no count past the end of its table, in tables that hold so many numbers.
+fn counted(k: Reader, room: Counts) -> Reader
+    ensures { CountedIn k room result }
 {
-    let came = k.came;
-    let st = k.st;
-    let within = within(st, bodies, numbers, floats, steps);
     Reader {
-        over: k.over,
-        came,
-        number: k.number,
-        st: within,
-        len: k.len,
+        st: within(k.st, room),
+        ..k
     }
 }
 
@@ -191,17 +157,14 @@ pub fn romaludiv_portion(
         (cells bodies.new numbers.new floats.new steps.new) }
     ensures sane { Sane (reader_of words.new).st (cells bodies.new numbers.new floats.new steps.new) }
 {
-    let before = reader_of(&*words);
-    let after = portion(
-        before,
-        text,
-        line,
-        &mut *bodies,
-        &mut *numbers,
-        &mut *floats,
-        &mut *steps,
-    );
-    *words = words_of(counted(after, bodies, numbers, floats, steps));
+    let mut tables = Tables {
+        bodies,
+        numbers,
+        floats,
+        steps,
+    };
+    let after = portion(reader_of(&*words), text, line, &mut tables);
+    *words = words_of(counted(after, tables.room()));
 }
 
 // As `text_read::end`, for any words: the announced end, or nothing where it was announced before.
@@ -218,14 +181,12 @@ pub fn romaludiv_end(
         (cells bodies.new numbers.new floats.new steps.new) }
     ensures sane { Sane (reader_of words.new).st (cells bodies.new numbers.new floats.new steps.new) }
 {
-    let before = reader_of(&*words);
-    let after = end(
-        before,
-        line,
-        &mut *bodies,
-        &mut *numbers,
-        &mut *floats,
-        &mut *steps,
-    );
-    *words = words_of(counted(after, bodies, numbers, floats, steps));
+    let mut tables = Tables {
+        bodies,
+        numbers,
+        floats,
+        steps,
+    };
+    let after = end(reader_of(&*words), line, &mut tables);
+    *words = words_of(counted(after, tables.room()));
 }

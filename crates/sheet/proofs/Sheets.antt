@@ -38,9 +38,9 @@ sheet_answers portions rest k line w k' line' w' o o' number b room c v stopped 
     let start : FedBy [] k line w = record { carried = b line w ∙ begun_fed (room_of w); room = room } in
     let f : FedBy (whole portions) k' line' w' = all_read portions [] k line w k' line' w' start c in
     let carried : reading_in k' line' w' ≡ capped_in (going (feeds of_program unread (whole portions))) = rw f.room at f.carried in
-    by carried (is_bad k'.came) refl (v.whole (whole portions) carried)
+    by carried (is_bad k'.bad) refl (v.whole (whole portions) carried)
   where
-    by : reading_in k' line' w' ≡ capped_in (going (feeds of_program unread (whole portions))) → (bad : Bool) → is_bad k'.came ≡ bad
+    by : reading_in k' line' w' ≡ capped_in (going (feeds of_program unread (whole portions))) → (bad : Bool) → is_bad k'.bad ≡ bad
         → Answered (whole portions) o o' number → Answered (whole portions ++ rest) o o' number
     by carried true e a = answers_early (whole portions) rest k' line' w' o o' number carried e a
     by carried false e a = let none : rest ≡ [] = stopped e in rw (none, append-nil) a

@@ -1,8 +1,8 @@
 -- What was read and what was written, where the bytes of both are known. Assumes nothing.
-use Rattle.std.specs.Prelude.{ℕ, Bool, true, false, not, ◌&&◌, List, [], ◌++◌, ◌≡◌, None, Some, IfSome, Option, ltb, take, refl}
+use Rattle.std.specs.Prelude.{ℕ, Bool, true, false, not, ◌&&◌, List, [], ◌++◌, ◌≡◌, None, Some, IfSome, Option, Result, Ok, Err, OnOk, is_ok, ltb, take, refl}
 use Rattle.std.proofs.Common.{ap, sym, subst, ◌∙◌, append-nil, arith}
 use Rattle.std.proofs.KnownBytes.{Consumes-nil, Consumes-trans}
-use Rattle.std.specs.Io.KnownBytes.{Appends, Consumes, IsAtEnd, Keeps}
+use Rattle.std.specs.Io.KnownBytes.{Appends, Consumes, IsAtEnd}
 use Rattle.text_line.specs.Night.{of_program}
 use Rattle.text_line.specs.Filled.{Cells, room_of}
 use Rattle.text_read.specs.Carried.{Begins, capped_in, fresh, is_bad, reading_in}
@@ -13,16 +13,20 @@ use Rattle.text_read.proofs.Going.{begins}
 use Rattle.text_read.proofs.Whole.{begun_fed, fed_more}
 use Rattle.text_output.specs.Output.{output}
 use Rattle.text_program.specs.Answered.{Answered}
+use Rattle.text_program.specs.Tables.{RowsZero}
 use Rattle.text_program.proofs.InPortions.{answers_early}
-use Rattle.sheet.specs.declared.Onward.{Onward}
-use Rattle.sheet.specs.Once.{AnsweredOnce, ReadOnce}
+use Rattle.sheet.specs.Once.{AnsweredOnce, Onward, ReadOnce}
 use Rattle.sheet.proofs.Sheets.{FedBy}
 
--- a read that failed took nothing
-pub none_taken : (old new : Option (List ℕ)) → Keeps old new → Consumes old new []
-none_taken None new h = tt
-none_taken (Some x) None h = absurd h
-none_taken (Some x) (Some y) h = sym h
+-- the program's tables have the program's room
+pub zeros_room : (w : Cells) → RowsZero w → room_of w ≡ of_program
+unfolding room_of of_program
+zeros_room w z = rw (z.bodies, z.numbers, z.floats, z.steps)
+
+-- where no error is handed on, none was met
+pub well_written : {E A : Type 0} (r : Result Unit E) {ok : Bool} → ok ≡ is_ok r → OnOk r A → ok ≡ true → A
+well_written (Ok x) v a t = a
+well_written (Err e) v a t = absurd cc
 
 -- what was read of the input so far is what k was fed
 pub record Fed (old now : Option (List ℕ)) (k : Reader) (line : List ℕ) (w : Cells) : Type 0 where
@@ -43,22 +47,22 @@ fed_next f once took = record {
 
 -- the reading stopped at the end, or after a bad line, and what was read was answered
 pub all_answered : (old now : Option (List ℕ)) {k : Reader} {line : List ℕ} {w : Cells} {o o' : List ℕ} {n : ℕ} → Fed old now k line w
-    → (is_bad k.came ≡ false → IsAtEnd now) → AnsweredOnce k line w o o' n → IfSome old (λ text. take n o' ≡ output text)
+    → (is_bad k.bad ≡ false → IsAtEnd now) → AnsweredOnce k line w o o' n → IfSome old (λ text. take n o' ≡ output text)
 all_answered None now f stopped v = tt
 all_answered (Some text) None f stopped v = absurd f.took
 all_answered (Some text) (Some rest) {k = k} {line = line} {w = w} {o = o} {o' = o'} {n = n} f stopped v =
-    by (is_bad k.came) refl (v.whole f.so_far carried)
+    by (is_bad k.bad) refl (v.whole f.so_far carried)
   where
     carried : reading_in k line w ≡ capped_in (going (feeds of_program unread f.so_far))
     carried = rw f.fed.room at f.fed.carried
 
-    by : (bad : Bool) → is_bad k.came ≡ bad → Answered f.so_far o o' n → take n o' ≡ output text
+    by : (bad : Bool) → is_bad k.bad ≡ bad → Answered f.so_far o o' n → take n o' ≡ output text
     by true e a = (answers_early f.so_far rest k line w o o' n carried e a).told ∙ ap output (sym f.took)
     by false e a = a.told ∙ ap output (sym (f.took ∙ ap (λ l. f.so_far ++ l) (stopped e) ∙ append-nil f.so_far))
 
 -- and the answer written, to where nothing was written before it
 pub all_written : (old now start to to' : Option (List ℕ)) {k : Reader} {line : List ℕ} {w : Cells} {o o' : List ℕ} {n : ℕ} → Fed old now k line w
-    → (is_bad k.came ≡ false → IsAtEnd now) → AnsweredOnce k line w o o' n → to ≡ start → Appends to to' (take n o')
+    → (is_bad k.bad ≡ false → IsAtEnd now) → AnsweredOnce k line w o o' n → to ≡ start → Appends to to' (take n o')
     → IfSome old (λ text. Appends start to' (output text))
 all_written None now start to to' f stopped v e h = tt
 all_written (Some text) now start to to' f stopped v e h =

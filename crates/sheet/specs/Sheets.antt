@@ -8,8 +8,7 @@ use Rattle.text_read.specs.Portions.{whole}
 use Rattle.text_read.specs.Carried.{Begins, is_bad}
 use Rattle.text_read.specs.declared.Reader.{Reader}
 use Rattle.text_program.specs.Answered.{Answered}
-use Rattle.sheet.specs.Once.{AnsweredOnce, ReadOnce}
-use Rattle.sheet.specs.declared.Onward.{Onward}
+use Rattle.sheet.specs.Once.{AnsweredOnce, Onward, ReadOnce}
 
 -- no call
 pub record NoRead (k : Reader) (line : List ℕ) (w : Cells) (k' : Reader) (line' : List ℕ) (w' : Cells) : Type 0 where
@@ -37,4 +36,4 @@ abbrev pub SheetAnswers : Type 0
 SheetAnswers =
     (portions : List (List ℕ)) (rest : List ℕ) (k : Reader) (line : List ℕ) (w : Cells) (k' : Reader) (line' : List ℕ) (w' : Cells)
     (o o' : List ℕ) (number : ℕ) → Begins k → room_of w ≡ of_program → Reads portions k line w k' line' w' → AnsweredOnce k' line' w' o o' number
-    → (is_bad k'.came ≡ false → rest ≡ []) → Answered (whole portions ++ rest) o o' number
+    → (is_bad k'.bad ≡ false → rest ≡ []) → Answered (whole portions ++ rest) o o' number

@@ -44,6 +44,7 @@ pub struct Contact {
 }
 
 impl ContactHead {
+    // Both, as the parts have them: a named constant, and zero().
     pub const ZERO: ContactHead = ContactHead {
         body1: 0,
         body2: 0,
@@ -56,6 +57,7 @@ impl ContactHead {
         flag: 0.0,
     };
 
+    #[tactic(auto, unfolding(crate::specs::Contact::head_zero))]
     pub fn zero() -> ContactHead
         ensures { result ≡ head_zero }
     {
@@ -64,6 +66,7 @@ impl ContactHead {
 }
 
 impl ContactPoint {
+    #[tactic(auto, unfolding(crate::specs::Contact::point_zero))]
     pub fn zero() -> ContactPoint
         ensures { result ≡ point_zero }
     {
@@ -87,6 +90,7 @@ impl ContactPoint {
 }
 
 impl Contact {
+    #[tactic(auto, unfolding(crate::specs::Contact::contact_zero))]
     pub fn zero() -> Contact
         ensures { result ≡ contact_zero }
     {

@@ -6,6 +6,7 @@ use mathlib.Core.Bool.{Bool, true, false, cond}
 use borrow.Author.Tests.{lt-ltb}
 use native.Mathlib.Omega.{arith}
 use lib.Dec.{ltb}
+use Rattle.std.specs.Prelude.{None}
 use Rattle.elem_leaves.specs.Floats.{◌*f◌}
 use Rattle.elem_leaves.specs.Leaves.{tangent}
 use Rattle.elem_velocity.specs.declared.Vels.{Vels}
@@ -108,7 +109,7 @@ module _ (c : Contact) (v : Vels) where
   routine_keeps (suc (suc (suc (suc (suc kind))))) two = sym (nothing_stored c c)
 
   -- only a pair has a branch
-  pub no_branch : (kind : ℕ) → (kind ≡ 4 → ⊥) → (routine kind c v).branch ≡ 0
+  pub no_branch : (kind : ℕ) → (kind ≡ 4 → ⊥) → (routine kind c v).branch ≡ None
   unfolding routine kind_of kinds no_kind warm_start over_points
   no_branch zero other = refl
   no_branch (suc zero) other = refl

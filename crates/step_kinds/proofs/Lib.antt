@@ -1,4 +1,3 @@
 pub mod Keeps
-pub mod Turns
 pub mod Stored
 pub mod NoKind

@@ -1,12 +1,11 @@
 -- Document 01, "Arithmetic": the routines, each with a contact and the velocities of its bodies. A rule is said once, at one point; then
 -- over the points below count, a then b. Which kind of step has which routine stands in Table.antt. Assumes nothing.
-use Rattle.std.specs.Prelude.{ℕ, ltb}
+use Rattle.std.specs.Prelude.{ℕ, None, Some, ltb}
 use Rattle.base_words.specs.Choice.{if◌then◌otherwise◌}
 use Rattle.elem_leaves.specs.Floats.{◌*f◌}
 use Rattle.elem_leaves.specs.Leaves.{tangent}
 use Rattle.elem_velocity.specs.declared.Vels.{Vels}
 use Rattle.elem_tangent.specs.Tangent.{friction, tangent_warm}
-use Rattle.elem_impulse.specs.Block.{branch_number}
 use Rattle.elem_normal.specs.Normal.{normal, normal_warm, restitution}
 use Rattle.elem_normal.specs.Pair.{pair}
 use Rattle.elem_normal.specs.declared.NormalSolved.{NormalSolved}
@@ -61,7 +60,7 @@ unfoldable pub over_points : Rule → Contact → Vels → ContactSolved
 over_points rule c v =
     let a = turn rule 0 c.head c.a v in
     let b = turn rule 1 c.head c.b a.vels in
-    record { branch = 0; contact = record { head = c.head; a = a.point; b = b.point }; vels = b.vels }
+    record { branch = None; contact = record { head = c.head; a = a.point; b = b.point }; vels = b.vels }
 
 -- Warm start: the normal impulses, a then b; then the tangent impulses, a then b
 unfoldable pub warm_start : Contact → Vels → ContactSolved
@@ -73,7 +72,7 @@ pair_of c v =
     let h = c.head in
     let s = pair c.a.normal_part c.b.normal_part h.dir1 h.im1 h.im2 h.k12 h.flag v in
     record {
-      branch = branch_number s.branch;
+      branch = Some s.branch;
       contact = record {
         head = h;
         a = record { normal_part = s.a; tangent_part = c.a.tangent_part };

@@ -1,6 +1,6 @@
 -- Document 01, "Tables": "A step is a contact number and a kind; the step's kind, 0 to 4, chooses the routine". The one table of kinds: a
 -- new kind is one more line of it. Assumes nothing.
-use Rattle.std.specs.Prelude.{ℕ, Bool, List, [], ◌∷◌, get_or}
+use Rattle.std.specs.Prelude.{ℕ, None, Bool, List, [], ◌∷◌, get_or}
 use Rattle.base_places.specs.Places.{none, only}
 use Rattle.base_places.specs.declared.Cell.{Cell}
 use Rattle.base_places.specs.declared.Cell.TheVariants.{NormalImpulse, TangentImpulse}
@@ -31,7 +31,7 @@ kinds =
 
 -- no other number is a kind: what it would do is nothing
 unfoldable pub no_kind : Kind
-no_kind = kind (λ c v. record { branch = 0; contact = c; vels = v }) 1 none
+no_kind = kind (λ c v. record { branch = None; contact = c; vels = v }) 1 none
 
 -- a step's kind by its number
 unfoldable pub kind_of : ℕ → Kind

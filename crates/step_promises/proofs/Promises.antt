@@ -13,7 +13,7 @@ use Rattle.elem_velocity.specs.declared.Vels.{Vels}
 use Rattle.step_kinds.proofs.Keeps.{no_branch, routine_keeps, same_head}
 use Rattle.step_contact.specs.Contact.{is_floor}
 use Rattle.step_contact.specs.Places.{at_a, at_b}
-use Rattle.elem_impulse.specs.Block.{branch_number}
+use Rattle.elem_impulse.specs.Block.{branch_number, branch_word}
 use Rattle.elem_impulse.specs.declared.Branch.{Branch}
 use Rattle.elem_impulse.specs.declared.Branch.TheVariants.{Both, Degraded, Kept, Neither, OnlyA, OnlyB}
 use Rattle.elem_normal.specs.Pair.{pair}
@@ -33,9 +33,7 @@ use Rattle.base_refusals.proofs.Chain.{none}
 use Rattle.base_refusals.proofs.Exact.{Apart, None, apart, exactly, left, taken}
 use Rattle.step_promises.specs.Promises.{BranchOfPairs, DistinctNumbers, ExactAnswers, FewBranches, FiniteDone, FloorKept, SameHead, Untouched}
 use Rattle.step_rules.proofs.Chain.{not_both}
-use Rattle.step_rules.specs.Step.{answer, as_read, as_written, asked, branch, checks, conditions, first_or, holds_of, step, tried, writes, written_vels}
-use Rattle.step_rules.specs.declared.Outcome.{Outcome}
-use Rattle.step_rules.specs.declared.Outcome.TheVariants.{Done, Refused}
+use Rattle.step_rules.specs.Step.{Done, Outcome, Refused, answer, as_read, as_written, asked, branch, checks, conditions, first_or, holds_of, step, tried, writes, written_vels}
 
 -- writing changes no answer and no branch
 same_answer : (h : ContactHead) (v : Vels) (o : Outcome) → answer (as_written h v o) ≡ answer o
@@ -197,23 +195,23 @@ finite_done c kind v rows s e =
     }
 
 -- a refusal has no branch, and a done step the routine's
-refusal_or_made : (cs : List Condition) (made : ContactSolved) → branch (first_or cs made) ≤ made.branch
+refusal_or_made : (cs : List Condition) (made : ContactSolved) → branch (first_or cs made) ≤ branch_word made.branch
 unfolding first_or
 refusal_or_made [] made = omega arith
 refusal_or_made (c ∷ cs) made = by_case c.holds (refusal_or_made cs made)
   where
-    by_case : (b : Bool) → branch (first_or cs made) ≤ made.branch → branch (cond b (Refused c.number) (first_or cs made)) ≤ made.branch
+    by_case : (b : Bool) → branch (first_or cs made) ≤ branch_word made.branch → branch (cond b (Refused c.number) (first_or cs made)) ≤ branch_word made.branch
     by_case true rest = omega arith
     by_case false rest = rest
 
-routine_branch : (c : Contact) (kind : ℕ) (v : Vels) (rows : ℕ) → branch (step c kind v rows) ≤ (routine kind c (as_read c.head v)).branch
+routine_branch : (c : Contact) (kind : ℕ) (v : Vels) (rows : ℕ) → branch (step c kind v rows) ≤ branch_word (routine kind c (as_read c.head v)).branch
 unfolding step tried
 routine_branch c kind v rows =
     let seen = as_read c.head v in
     rw (same_branch c.head v (tried c kind seen rows)) (refusal_or_made (conditions c kind seen rows) (routine kind c seen))
 
 pub branch_of_pairs : BranchOfPairs
-branch_of_pairs c kind v rows other = omega (arith, routine_branch c kind v rows, no_branch c (as_read c.head v) kind other)
+branch_of_pairs c kind v rows other = omega (arith, routine_branch c kind v rows, ap branch_word (no_branch c (as_read c.head v) kind other))
 
 one_of_six : (b : Branch) → branch_number b ≤ 6
 one_of_six Both = omega arith
@@ -223,7 +221,7 @@ one_of_six Neither = omega arith
 one_of_six Kept = omega arith
 one_of_six Degraded = omega arith
 
-pair_branch : (c : Contact) (v : Vels) → (routine 4 c v).branch ≤ 6
+pair_branch : (c : Contact) (v : Vels) → branch_word (routine 4 c v).branch ≤ 6
 unfolding routine kind_of kinds pair_of
 pair_branch c v =
     let h = c.head in

@@ -14,8 +14,7 @@ use Rattle.step_kinds.specs.declared.ContactSolved.{ContactSolved}
 use Rattle.step_values.specs.Values.{finite_vel}
 use Rattle.base_refusals.specs.Refusals.{Exactly}
 use Rattle.base_refusals.specs.Distinct.{distinct}
-use Rattle.step_rules.specs.Step.{answer, as_read, branch, conditions, step}
-use Rattle.step_rules.specs.declared.Outcome.TheVariants.{Done}
+use Rattle.step_rules.specs.Step.{Done, answer, as_read, branch, conditions, step}
 
 -- "each refusal is given exactly when its number's condition holds and no earlier one does"; 0 exactly when none holds
 abbrev pub ExactAnswers : Type 0

@@ -13,9 +13,7 @@ use Rattle.step_kinds.specs.declared.ContactSolved.{ContactSolved}
 use Rattle.step_shape.specs.Shape.{kind_above, wrong_bodies}
 use Rattle.step_values.specs.Values.{unwritable}
 use Rattle.base_refusals.specs.Refusals.{Condition, ◌when◌}
-use Rattle.step_rules.specs.Step.{as_read, as_written, asked, checks, conditions, first_or, holds_of, step, tried}
-use Rattle.step_rules.specs.declared.Outcome.{Outcome}
-use Rattle.step_rules.specs.declared.Outcome.TheVariants.{Done, Refused}
+use Rattle.step_rules.specs.Step.{Done, Outcome, Refused, as_read, as_written, asked, checks, conditions, first_or, holds_of, step, tried}
 
 module _ (n : ℕ) (cs : List Condition) (done : ContactSolved) {r b : Bool} (found : r ≡ b) where
   -- the check found that its condition holds

@@ -1,7 +1,8 @@
 -- Document 01, "Numbers that refuse" and "Tables": one step, as a function of a contact, a kind, the velocities of its two bodies and
 -- the number of rows of the body table. Assumes nothing.
-use Rattle.std.specs.Prelude.{ℕ, Bool, ◌||◌, List, [], ◌∷◌}
+use Rattle.std.specs.Prelude.{ℕ, Bool, ◌||◌, List, [], ◌∷◌, Result, Ok, Err}
 use Rattle.base_words.specs.Choice.{if◌then◌otherwise◌}
+use Rattle.elem_impulse.specs.Block.{branch_word}
 use Rattle.elem_velocity.specs.Velocity.{rest}
 use Rattle.elem_velocity.specs.declared.SolverVel.{SolverVel}
 use Rattle.elem_velocity.specs.declared.Vels.{Vels}
@@ -13,8 +14,18 @@ use Rattle.step_kinds.specs.declared.ContactSolved.{ContactSolved}
 use Rattle.step_shape.specs.Shape.{kind_above, pair_of_one, wrong_bodies, wrong_count}
 use Rattle.step_values.specs.Values.{not_finite, not_finite_vels, out_of_range, unwritable}
 use Rattle.base_refusals.specs.Refusals.{Condition, ◌when◌}
-use Rattle.step_rules.specs.declared.Outcome.{Outcome}
-use Rattle.step_rules.specs.declared.Outcome.TheVariants.{Refused, Done}
+use Rattle.base_refusals.specs.Numbers.{refusal_number}
+use Rattle.base_refusals.specs.declared.Refusal.{Refusal}
+
+-- what a step comes to: refused with its number, or done, with the branch, the new contact and the new velocities
+pub data Outcome : Type 0 where
+  Refused : ℕ → Outcome
+  Done : ContactSolved → Outcome
+
+-- what a function says of it
+abbrev pub outcome_of : Result ContactSolved Refusal → Outcome
+outcome_of (Ok s) = Done s
+outcome_of (Err refusal) = Refused (refusal_number refusal)
 
 -- Body number 65535 is the floor: it reads as zero velocity ..
 unfoldable pub reads : ℕ → SolverVel → SolverVel
@@ -95,4 +106,4 @@ answer (Done s) = 0
 
 abbrev pub branch : Outcome → ℕ
 branch (Refused number) = 0
-branch (Done s) = s.branch
+branch (Done s) = branch_word s.branch

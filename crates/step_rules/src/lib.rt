@@ -1,37 +1,32 @@
-// What one step comes to, as a type: an outcome says what is to be written, or that nothing is. The rules of a step, by
-// which it is refused or done, are definitions in specs/; the engines that meet them stand above.
+// What one step comes to, as a type: what is to be written, or why nothing is. The rules of a step, by which it is refused
+// or done, are definitions in specs/; the engines that meet them stand above.
 #![tactic(auto)]
 
 ghost use Rattle.std.specs.Prelude.{◌≡◌};
-ghost use Rattle.step_rules.specs.Step.{answer, branch};
+ghost use Rattle.step_rules.specs.Step.{answer, branch, outcome_of};
 
+use base_refusals::Refusal;
 use step_kinds::ContactSolved;
 
-// Refused with its number, or done: the branch, the new contact and the new velocities.
-#[derive(Clone, Copy)]
-pub enum Outcome {
-    Refused(u16),
-    Done(ContactSolved),
+// Done: the branch, the new contact and the new velocities; or refused.
+pub type Outcome = Result<ContactSolved, Refusal>;
+
+// The number of the refusal; 0 is success.
+pub fn answer(outcome: Outcome) -> u16
+    ensures { result ≡ answer (outcome_of outcome) }
+{
+    match outcome {
+        Ok(_) => 0,
+        Err(refusal) => u16::from(refusal),
+    }
 }
 
-impl Outcome {
-    // The number of the refusal; 0 is success.
-    pub fn answer(self) -> u16
-        ensures { result ≡ answer self }
-    {
-        match self {
-            Outcome::Refused(number) => number,
-            Outcome::Done(_) => 0,
-        }
-    }
-
-    // How a pair was solved; 0 for a refusal and for every other kind.
-    pub fn branch(self) -> u16
-        ensures { result ≡ branch self }
-    {
-        match self {
-            Outcome::Refused(_) => 0,
-            Outcome::Done(solved) => solved.branch,
-        }
+// How a pair was solved; 0 for a refusal and for every other kind.
+pub fn branch(outcome: Outcome) -> u16
+    ensures { result ≡ branch (outcome_of outcome) }
+{
+    match outcome {
+        Ok(solved) => solved.branch_word(),
+        Err(_) => 0,
     }
 }

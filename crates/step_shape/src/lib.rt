@@ -9,16 +9,15 @@ use step_contact::{ContactHead, FLOOR};
 use step_kinds::{LAST_KIND, points_for};
 
 // 3: no routine has this kind.
+#[tactic(auto, unfolding(crate::specs::Shape::kind_above, step_kinds::specs::Table::kinds))]
 pub fn kind_above(kind: u16) -> bool
     ensures { result ≡ kind_above kind }
 {
-    match kind {
-        0..=LAST_KIND => false,
-        _ => true,
-    }
+    !matches!(kind, 0..=LAST_KIND)
 }
 
 // 5: a body that is nowhere, or one body twice.
+#[tactic(auto, unfolding(crate::specs::Shape::wrong_bodies))]
 pub fn wrong_bodies(head: ContactHead, rows: usize) -> bool
     ensures { result ≡ wrong_bodies head rows }
 {
@@ -30,13 +29,15 @@ pub fn wrong_bodies(head: ContactHead, rows: usize) -> bool
 }
 
 // 6: neither one point nor two.
+#[tactic(auto, unfolding(crate::specs::Shape::wrong_count))]
 pub fn wrong_count(head: ContactHead) -> bool
     ensures { result ≡ wrong_count head }
 {
-    !((head.count == 1) | (head.count == 2))
+    !matches!(head.count, 1 | 2)
 }
 
 // 7: a pair needs both points.
+#[tactic(auto, unfolding(crate::specs::Shape::pair_of_one))]
 pub fn pair_of_one(kind: u16, head: ContactHead) -> bool
     ensures { result ≡ pair_of_one kind head }
 {

@@ -18,6 +18,7 @@ use step_contact::{Contact, ContactHead, ContactPoint, FLOOR};
 use step_kinds::{ContactSolved, stores};
 
 // Whether a test holds at a point below count, given whether it holds at a and at b.
+#[tactic(auto, unfolding(crate::specs::Values::below_count))]
 fn below_count(head: ContactHead, at_a: bool, at_b: bool) -> bool
     ensures { result ≡ below_count head at_a at_b }
 {
@@ -25,12 +26,14 @@ fn below_count(head: ContactHead, at_a: bool, at_b: bool) -> bool
 }
 
 // 8, of one velocity: all its numbers are finite.
+#[tactic(auto, unfolding(crate::specs::Values::finite_vel))]
 fn finite_vel(v: SolverVel) -> bool
     ensures { result ≡ finite_vel v }
 {
     is_finite(v.linear.x) & is_finite(v.linear.y) & is_finite(v.angular)
 }
 
+#[tactic(auto, unfolding(crate::specs::Values::finite_head))]
 pub fn finite_head(head: ContactHead) -> bool
     ensures { result ≡ finite_head head }
 {
@@ -45,6 +48,9 @@ pub fn finite_head(head: ContactHead) -> bool
         & is_finite(head.flag)
 }
 
+// A normal part and, below, a tangent part: what the two would share is this list of their floats alone, as document 01 has
+// two kinds of part.
+#[tactic(auto, unfolding(crate::specs::Values::finite_normal))]
 fn finite_normal(part: ContactConstraintNormalPart) -> bool
     ensures { result ≡ finite_normal part }
 {
@@ -60,6 +66,7 @@ fn finite_normal(part: ContactConstraintNormalPart) -> bool
         & is_finite(part.seed)
 }
 
+#[tactic(auto, unfolding(crate::specs::Values::finite_tangent))]
 fn finite_tangent(part: ContactConstraintTangentPart) -> bool
     ensures { result ≡ finite_tangent part }
 {
@@ -73,41 +80,39 @@ fn finite_tangent(part: ContactConstraintTangentPart) -> bool
         & is_finite(part.r)
 }
 
+#[tactic(auto, unfolding(crate::specs::Values::finite_point))]
 pub fn finite_point(point: ContactPoint) -> bool
     ensures { result ≡ finite_point point }
 {
-    let normal_part = point.normal_part;
-    let tangent_part = point.tangent_part;
-    finite_normal(normal_part) & finite_tangent(tangent_part)
+    finite_normal(point.normal_part) & finite_tangent(point.tangent_part)
 }
 
 // 8, of the contact: a float of its head or of a point below count is not finite.
+#[tactic(auto, unfolding(crate::specs::Values::not_finite))]
 pub fn not_finite(contact: Contact) -> bool
     ensures { result ≡ not_finite contact }
 {
-    let head = contact.head;
-    let a = contact.a;
-    let b = contact.b;
-    let points = below_count(head, !finite_point(a), !finite_point(b));
-    !finite_head(head) | points
+    let Contact { head, a, b } = contact;
+    !finite_head(head) | below_count(head, !finite_point(a), !finite_point(b))
 }
 
 // 8, of its bodies: a velocity is not finite.
+#[tactic(auto, unfolding(crate::specs::Values::not_finite_vels))]
 pub fn not_finite_vels(vels: Vels) -> bool
     ensures { result ≡ not_finite_vels vels }
 {
-    let v1 = vels.v1;
-    let v2 = vels.v2;
-    !finite_vel(v1) | !finite_vel(v2)
+    !finite_vel(vels.v1) | !finite_vel(vels.v2)
 }
 
 // A side that may be the floor's has one of two numbers other than zero.
+#[tactic(auto, unfolding(crate::specs::Values::floor_moves))]
 fn floor_moves(body: u16, x: f32, y: f32) -> bool
     ensures { result ≡ floor_moves body x y }
 {
     (body == FLOOR) & ((x != 0.0) | (y != 0.0))
 }
 
+#[tactic(auto, unfolding(crate::specs::Values::head_out))]
 fn head_out(head: ContactHead) -> bool
     ensures { result ≡ head_out head }
 {
@@ -120,11 +125,14 @@ fn head_out(head: ContactHead) -> bool
         | floor_moves(head.body2, head.im2.x, head.im2.y)
 }
 
+#[tactic(auto, unfolding(crate::specs::Values::point_out))]
 fn point_out(head: ContactHead, point: ContactPoint) -> bool
     ensures { result ≡ point_out head point }
 {
-    let normal_part = point.normal_part;
-    let tangent_part = point.tangent_part;
+    let ContactPoint {
+        normal_part,
+        tangent_part,
+    } = point;
     let cfm = normal_part.cfm_factor;
     (normal_part.r < 0.0)
         | (tangent_part.r < 0.0)
@@ -143,12 +151,11 @@ fn point_out(head: ContactHead, point: ContactPoint) -> bool
 }
 
 // 9: a number is outside what it may be, or the floor would move.
+#[tactic(auto, unfolding(crate::specs::Values::out_of_range))]
 pub fn out_of_range(contact: Contact) -> bool
     ensures { result ≡ out_of_range contact }
 {
-    let head = contact.head;
-    let a = contact.a;
-    let b = contact.b;
+    let Contact { head, a, b } = contact;
     head_out(head) | below_count(head, point_out(head, a), point_out(head, b))
 }
 
@@ -157,65 +164,40 @@ pub fn out_of_range(contact: Contact) -> bool
 fn lost_cell(kind: u16, point: ContactPoint, cell: Cell) -> bool
     ensures { result ≡ lost_cell kind point cell }
 {
-    if stores(kind, cell) {
-        return !is_finite(point.in_cell(cell));
-    }
-    false
+    stores(kind, cell) && !is_finite(point.in_cell(cell))
 }
 
 // Some cell of a point.
+#[tactic(auto, unfolding(crate::specs::Values::lost_impulse, base_order::specs::OneByOne::any))]
 fn lost_impulse(kind: u16, point: ContactPoint) -> bool
     ensures { result ≡ lost_impulse kind point }
 {
-    if lost_cell(kind, point, Cell::NormalImpulse) {
-        return true;
-    }
-    if lost_cell(kind, point, Cell::TangentImpulse) {
-        return true;
-    }
-    false
+    lost_cell(kind, point, Cell::NormalImpulse) || lost_cell(kind, point, Cell::TangentImpulse)
 }
 
 // The same at a place, if it is below count.
 fn lost_at(kind: u16, place: u16, count: u16, point: ContactPoint) -> bool
     ensures { result ≡ (ltb place count && lost_impulse kind point) }
 {
-    if place < count {
-        return lost_impulse(kind, point);
-    }
-    false
+    place < count && lost_impulse(kind, point)
 }
 
 // A velocity of a real body is not finite.
 fn lost_vel(body: u16, v: SolverVel) -> bool
     ensures { result ≡ lost_vel body v }
 {
-    if body == FLOOR {
-        return false;
-    }
-    !finite_vel(v)
+    body != FLOOR && !finite_vel(v)
 }
 
 // 10: what the routine made cannot be written.
+#[tactic(auto, unfolding(crate::specs::Values::unwritable, crate::specs::Values::below_count))]
 pub fn unwritable(kind: u16, solved: ContactSolved) -> bool
     ensures { result ≡ unwritable kind solved }
 {
-    let contact = solved.contact;
-    let head = contact.head;
-    let count = head.count;
-    let vels = solved.vels;
-    let v1 = vels.v1;
-    let v2 = vels.v2;
-    let a = contact.a;
-    let b = contact.b;
-    if lost_vel(head.body1, v1) {
-        return true;
-    }
-    if lost_vel(head.body2, v2) {
-        return true;
-    }
-    if lost_at(kind, 0, count, a) {
-        return true;
-    }
-    lost_at(kind, 1, count, b)
+    let Contact { head, a, b } = solved.contact;
+    let Vels { v1, v2 } = solved.vels;
+    lost_vel(head.body1, v1)
+        || lost_vel(head.body2, v2)
+        || lost_at(kind, 0, head.count, a)
+        || lost_at(kind, 1, head.count, b)
 }

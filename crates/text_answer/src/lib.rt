@@ -2,25 +2,41 @@
 #![tactic(auto)]
 
 ghost use Rattle.std.specs.Prelude.{◌≡◌, [], ◌*◌, length, take};
-ghost use Rattle.text_digits.specs.Wrote.{Wrote};
-ghost use Rattle.text_output.specs.Answer.{answer, floats_of, lines, prints, written, zeros};
+ghost use Rattle.text_digits.specs.Wrote.{Writes};
+ghost use Rattle.text_output.specs.Answer.{answer, floats_of, lines, prints, written};
 ghost use Rattle.base_places.specs.Places.{answer_width};
-ghost use Rattle.base_places.specs.Lengths.{program_steps};
-ghost use Rattle.text_answer.specs.Calling.{Called, left, night};
+ghost use Rattle.text_answer.specs.Calling.{Called, Fits, KeptRead, KeptRoom, left_in, night_in};
 
 use base_places::{ANSWER_WIDTH, STEP_WIDTH};
-use call::{Report, call};
-use text_rows::{Listed, list};
+use base_refusals::Refusal;
+use call::{Done, call};
+use text_digits::Page;
 
-// The floats that patterns stand for.
+// A night that was read: patterns of its bodies and contacts, which give way to those that are printed.
+#[derive(Drop)]
+pub struct Read<'a> {
+    pub bodies: &'a mut [u32],
+    pub numbers: &'a [u16],
+    pub floats: &'a mut [u32],
+    pub steps: &'a [u16],
+}
+
+// What the call works on: floats of the bodies and of the contacts, and room for an answer to each step.
+#[derive(Drop)]
+pub struct Room<'a> {
+    pub bodies: &'a mut [f32],
+    pub contacts: &'a mut [f32],
+    pub answers: &'a mut [u16],
+}
+
+// The floats that patterns stand for. Here and below by index: a loop over an iter_mut under zip has no name for what it
+// has written so far, which its invariant needs.
 fn make_floats(bits: &[u32], values: &mut [f32])
     requires { length bits.now ≡ length values.old }
     ensures { values.new ≡ floats_of bits.now }
 {
-    let mut i = 0;
-    while i < bits.len() {
-        values[i] = text_digits::value_of(bits[i]);
-        i += 1;
+    for (i, b) in bits.iter().enumerate() {
+        values[i] = text_digits::value_of(*b);
     }
 }
 
@@ -29,37 +45,26 @@ fn print_bits(values: &[f32], kept: &mut [u32])
     requires { length kept.old ≡ length values.now }
     ensures { kept.new ≡ prints values.now kept.old }
 {
-    let mut i = 0;
-    while i < values.len() {
-        kept[i] = text_digits::bits_of(values[i], kept[i]);
-        i += 1;
+    for (i, x) in values.iter().enumerate() {
+        kept[i] = text_digits::bits_of(*x, kept[i]);
     }
 }
 
 // The call, on floats made of the patterns.
-fn call_night(
-    bodies: &[u32],
-    numbers: &[u16],
-    floats: &[u32],
-    steps: &[u16],
-    body_values: &mut [f32],
-    contact_values: &mut [f32],
-    room: &mut [u16],
-) -> Report
-    requires { (length bodies.now ≡ length body_values.old) × (length floats.now ≡ length contact_values.old)
-        × (room.old ≡ zeros (program_steps * answer_width)) }
-    ensures { Called (night bodies.now numbers.now floats.now steps.now) result
-        body_values.new contact_values.new room.new }
+fn call_night(read: &Read, room: &mut Room) -> Result<Done, Refusal>
+    requires { Fits read.now room.old }
+    ensures called { Called read.now result room.new }
+    ensures kept { KeptRoom room.old room.new }
 {
-    make_floats(bodies, &mut *body_values);
-    make_floats(floats, &mut *contact_values);
+    make_floats(&*read.bodies, &mut *room.bodies);
+    make_floats(&*read.floats, &mut *room.contacts);
     call(
-        body_values,
-        numbers,
-        contact_values,
-        steps,
-        room,
-        steps.len() / STEP_WIDTH,
+        &mut *room.bodies,
+        read.numbers,
+        &mut *room.contacts,
+        read.steps,
+        &mut *room.answers,
+        read.steps.len() / STEP_WIDTH,
     )
 }
 
@@ -74,88 +79,43 @@ fn answers_of(room: &[u16], done: usize) -> &[u16]
     }
 }
 
-// What is written of a night whose call was not refused; bodies and floats are what is printed.
-fn write_lines(
-    report: Report,
-    room: &[u16],
-    bodies: &[u32],
-    numbers: &[u16],
-    floats: &[u32],
-    out: &mut [u8],
-) -> usize
-    ensures { Wrote out.old 0
-        (lines report.done report.refused (take (report.done * answer_width) room.now)
-        bodies.now numbers.now floats.now) out.new result }
+// What is written of a night whose call was not refused; what was read has given way to what is printed.
+fn write_lines(ended: Done, read: &Read, room: &Room, page: &mut Page)
+    ensures { Writes page.old
+        (lines ended.done ended.refused (take (ended.done * answer_width) room.now.answers.now)
+        read.now.bodies.now read.now.numbers.now read.now.floats.now) page.new }
 {
-    let done = report.done;
-    let refused = report.refused;
-    let told = answers_of(room, done);
-    let a = list(Listed::Answers, &mut *out, 0, told, bodies);
-    let b = list(Listed::Bodies, &mut *out, a, told, bodies);
-    let i = list(Listed::Loads, &mut *out, b, numbers, floats);
-    text_write::e_line(out, i, done, refused)
+    let Done { done, refused } = ended;
+    text_rows::answers(page, answers_of(room.answers, done));
+    text_rows::bodies(page, read.bodies);
+    text_rows::loads(page, read.numbers, read.floats);
+    text_write::e_line(page, done, refused);
 }
 
-// What is written of a night after its call, which left these floats and this room.
-fn write_ended(
-    report: Report,
-    bodies: &mut [u32],
-    numbers: &[u16],
-    floats: &mut [u32],
-    body_values: &[f32],
-    contact_values: &[f32],
-    room: &[u16],
-    out: &mut [u8],
-) -> usize
-    requires { (length bodies.old ≡ length body_values.now) × (length floats.old ≡ length contact_values.now) }
-    ensures { Wrote out.old 0
-        (written (night bodies.old numbers.now floats.old [])
-        (left report body_values.now numbers.now contact_values.now room.now))
-        out.new result }
+// What is written of a night after its call, which left this room.
+fn write_ended(report: Result<Done, Refusal>, read: &mut Read, room: &Room, page: &mut Page)
+    requires { (length read.old.bodies.now ≡ length room.now.bodies.now)
+        × (length read.old.floats.now ≡ length room.now.contacts.now) }
+    ensures wrote { Writes page.old (written (night_in read.old) (left_in report read.old room.now)) page.new }
+    ensures kept { KeptRead read.old read.new }
 {
-    let refusal = report.refusal;
-    if refusal != 0 {
-        return text_write::r_line(out, 0, refusal);
+    match report {
+        Err(refusal) => text_write::r_line(page, u16::from(refusal)),
+        Ok(ended) => {
+            print_bits(room.bodies, &mut *read.bodies);
+            print_bits(room.contacts, &mut *read.floats);
+            write_lines(ended, read, room, page);
+        }
     }
-    print_bits(body_values, &mut *bodies);
-    print_bits(contact_values, &mut *floats);
-    write_lines(report, room, bodies, numbers, floats, out)
 }
 
-// The answer to a night that was read, from whole tables of what was read and room for their floats.
-pub fn answer_night(
-    bodies: &mut [u32],
-    numbers: &[u16],
-    floats: &mut [u32],
-    steps: &[u16],
-    body_values: &mut [f32],
-    contact_values: &mut [f32],
-    room: &mut [u16],
-    out: &mut [u8],
-) -> usize
-    requires { (length bodies.old ≡ length body_values.old) × (length floats.old ≡ length contact_values.old)
-        × (room.old ≡ zeros (program_steps * answer_width)) }
-    ensures { Wrote out.old 0
-        (answer (night bodies.old numbers.now floats.old steps.now))
-        out.new result }
+// The answer to a night that was read.
+pub fn answer_night(read: &mut Read, room: &mut Room, page: &mut Page)
+    requires { Fits read.old room.old }
+    ensures wrote { Writes page.old (answer (night_in read.old)) page.new }
+    ensures read_kept { KeptRead read.old read.new }
+    ensures room_kept { KeptRoom room.old room.new }
 {
-    let report = call_night(
-        bodies,
-        numbers,
-        floats,
-        steps,
-        &mut *body_values,
-        &mut *contact_values,
-        &mut *room,
-    );
-    write_ended(
-        report,
-        bodies,
-        numbers,
-        floats,
-        body_values,
-        contact_values,
-        room,
-        out,
-    )
+    let report = call_night(read, room);
+    write_ended(report, read, room, page);
 }

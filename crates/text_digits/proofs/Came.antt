@@ -8,25 +8,24 @@ use mathlib.Core.List.{List, [], ◌∷◌}
 use borrow.Author.Tests.{eq-eqb, eqb-true, eqb-false, leb-true, lt-ltb, ltb-true}
 use lib.Dec.{eqb, leb, ltb}
 use lib.ListN.{get_or, length}
+use Rattle.std.specs.Prelude.{Option, Some, None}
 use Rattle.base_words.specs.Choice.{if◌then◌otherwise◌}
 use Rattle.base_words.proofs.Pick.{never}
 use Rattle.base_words.proofs.Said.{all_l, all_r}
-use Rattle.text_digits.specs.declared.Number.{Number}
-use Rattle.text_digits.specs.declared.Number.TheVariants.{Is, No}
 use Rattle.text_digits.specs.Digits.{dec_of, digit_of, hex_of, number_from}
 use Rattle.text_digits.proofs.Counts.{zero_digit}
 use Rattle.text_digits.proofs.Tests.{both}
 
-none_is : {A : Type 0} {n : ℕ} → No ≡ Is n → A
+none_is : {A : Type 0} {n : ℕ} → None ≡ Some n → A
 none_is e = absurd (let z : ◌≡◌ {A = ℕ} 0 1 = cc in omega arith)
 
 -- a choice between a number and none
-module _ {x : Number} {n : ℕ} where
-  first : (t : Bool) → (if t then x otherwise No) ≡ Is n → (t ≡ true) × (x ≡ Is n)
+module _ {x : Option ℕ} {n : ℕ} where
+  first : (t : Bool) → (if t then x otherwise None) ≡ Some n → (t ≡ true) × (x ≡ Some n)
   first true e = (refl, e)
   first false e = none_is e
 
-  second : (t : Bool) → (if t then No otherwise x) ≡ Is n → (t ≡ false) × (x ≡ Is n)
+  second : (t : Bool) → (if t then None otherwise x) ≡ Some n → (t ≡ false) × (x ≡ Some n)
   second true e = none_is e
   second false e = (refl, e)
 
@@ -34,9 +33,9 @@ module _ {x : Number} {n : ℕ} where
 pub record Digit (base limit m b : ℕ) (s : List ℕ) (n : ℕ) : Type 0 where
   pub digit : digit_of b < base
   pub inside : m * base + digit_of b ≤ limit
-  pub rest : number_from base limit (m * base + digit_of b) s ≡ Is n
+  pub rest : number_from base limit (m * base + digit_of b) s ≡ Some n
 
-pub came_digit : (base limit m b : ℕ) (s : List ℕ) (n : ℕ) → number_from base limit m (b ∷ s) ≡ Is n → Digit base limit m b s n
+pub came_digit : (base limit m b : ℕ) (s : List ℕ) (n : ℕ) → number_from base limit m (b ∷ s) ≡ Some n → Digit base limit m b s n
 unfolding number_from
 came_digit base limit m b s n e =
     let both = first (ltb (digit_of b) base && leb (m * base + digit_of b) limit) e in
@@ -46,12 +45,12 @@ came_digit base limit m b s n e =
       rest = both.1;
     }
 
-pub came_end : (base limit m n : ℕ) → number_from base limit m [] ≡ Is n → m ≡ n
+pub came_end : (base limit m n : ℕ) → number_from base limit m [] ≡ Some n → m ≡ n
 unfolding number_from
 came_end base limit m n e = cc
 
 -- eight digits
-pub came_hex : (s : List ℕ) (n : ℕ) → hex_of s ≡ Is n → (length s ≡ 8) × (number_from 16 0xffff_ffff 0 s ≡ Is n)
+pub came_hex : (s : List ℕ) (n : ℕ) → hex_of s ≡ Some n → (length s ≡ 8) × (number_from 16 0xffff_ffff 0 s ≡ Some n)
 unfolding hex_of
 came_hex s n e = let one = first (eqb (length s) 8) e in (eqb-true _ _ one.0, one.1)
 
@@ -59,9 +58,9 @@ came_hex s n e = let one = first (eqb (length s) 8) e in (eqb-true _ _ one.0, on
 pub record Decimal (s : List ℕ) (n : ℕ) : Type 0 where
   pub some : length s ≡ 0 → ⊥
   pub lead : (eqb (get_or s 0 0) 48 && ltb 1 (length s)) ≡ false
-  pub number : number_from 10 65535 0 s ≡ Is n
+  pub number : number_from 10 65535 0 s ≡ Some n
 
-pub came_dec : (s : List ℕ) (n : ℕ) → dec_of s ≡ Is n → Decimal s n
+pub came_dec : (s : List ℕ) (n : ℕ) → dec_of s ≡ Some n → Decimal s n
 unfolding dec_of
 came_dec s n e =
     let one = second (eqb (length s) 0) e in

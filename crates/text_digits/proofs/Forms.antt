@@ -6,30 +6,30 @@ use native.Mathlib.Omega.{arith}
 use mathlib.Core.Path.{◌≡◌, ◌∙◌, ap}
 use mathlib.Core.List.{List, [], ◌∷◌}
 use lib.ListN.{length}
-use Rattle.text_digits.specs.declared.Number.TheVariants.{Is}
+use Rattle.std.specs.Prelude.{Some}
 use Rattle.text_digits.specs.Digits.{dec_of, digit_of, hex_of, number_from}
 use Rattle.text_digits.proofs.Came.{came_dec, came_digit, came_end, came_hex, lead_counts}
 
 -- for any base: the number stays within the limit, and each digit multiplies what was read before
 module _ (base limit : ℕ) where
-  within : (m n : ℕ) (s : List ℕ) → m ≤ limit → number_from base limit m s ≡ Is n → n ≤ limit
+  within : (m n : ℕ) (s : List ℕ) → m ≤ limit → number_from base limit m s ≡ Some n → n ≤ limit
   within m n [] h e = omega (arith, came_end base limit m n e)
   within m n (b ∷ s) h e = let d = came_digit base limit m b s n e in within (m * base + digit_of b) n s d.inside d.rest
 
-  grown : (m n : ℕ) (s : List ℕ) → number_from base limit m s ≡ Is n → m * base ^ length s ≤ n
+  grown : (m n : ℕ) (s : List ℕ) → number_from base limit m s ≡ Some n → m * base ^ length s ≤ n
   grown m n [] e = le_of_eq (ap (λ (p : ℕ). m * p) (pow-zero base) ∙ mul-one m ∙ came_end base limit m n e)
   grown m n (b ∷ s) e =
       let d = came_digit base limit m b s n e in
       let more : m * base ≤ m * base + digit_of b = le-add_right (m * base) (digit_of b) in
       rw (pow-succ', ← mul_assoc) (le_trans (mul-le-mul_right (base ^ length s) more) (grown (m * base + digit_of b) n s d.rest))
 
-pub hex_small : (s : List ℕ) (n : ℕ) → hex_of s ≡ Is n → n ≤ 0xffff_ffff
+pub hex_small : (s : List ℕ) (n : ℕ) → hex_of s ≡ Some n → n ≤ 0xffff_ffff
 hex_small s n e = within 16 0xffff_ffff 0 n s (omega arith) (came_hex s n e).1
 
-pub dec_small : (s : List ℕ) (n : ℕ) → dec_of s ≡ Is n → n ≤ 65535
+pub dec_small : (s : List ℕ) (n : ℕ) → dec_of s ≡ Some n → n ≤ 65535
 dec_small s n e = within 10 65535 0 n s (omega arith) (came_dec s n e).number
 
-pub dec_short : (s : List ℕ) (n : ℕ) → dec_of s ≡ Is n → length s ≤ 5
+pub dec_short : (s : List ℕ) (n : ℕ) → dec_of s ≡ Some n → length s ≤ 5
 dec_short [] n e = omega arith
 dec_short (b ∷ s) n e = side (dec_le 5 (length s))
   where

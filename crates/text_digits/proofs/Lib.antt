@@ -3,7 +3,6 @@ pub mod Counts
 pub mod Turn
 pub mod Accepted
 pub mod Eight
-pub mod Nan
 pub mod Then
 pub mod Written
 pub mod Lengths

@@ -11,8 +11,7 @@ use lib.Arith.{digits_div, digits_mod}
 use lib.Dec.{lit<, ltb}
 use lib.ListN.{length}
 use lib.Seq.{append_snoc}
-use Rattle.text_digits.specs.declared.Number.{Number}
-use Rattle.text_digits.specs.declared.Number.TheVariants.{Is}
+use Rattle.std.specs.Prelude.{Option, Some}
 use Rattle.text_digits.specs.Digits.{dec_bytes, dec_digits, dec_of, digit_of, glyph, hex_bytes, hex_digits, hex_of, number_from}
 use Rattle.text_digits.specs.RoundTrip.{DecRoundTrip, HexRoundTrip}
 use Rattle.text_digits.proofs.Accepted.{dec_number, hex_number}
@@ -32,8 +31,8 @@ record Writes (base start : ℕ) (digits : ℕ → ℕ → List ℕ) : Type 0 wh
 
 module _ (base limit : ℕ) (few : base ≤ 16) (some : 0 < base) where
   -- one digit more is read
-  one_more : (m n : ℕ) (s : List ℕ) (d : ℕ) → number_from base limit m s ≡ Is n → d < base → n * base + d ≤ limit
-      → number_from base limit m (s ++ (glyph d ∷ [])) ≡ Is (n * base + d)
+  one_more : (m n : ℕ) (s : List ℕ) (d : ℕ) → number_from base limit m s ≡ Some n → d < base → n * base + d ≤ limit
+      → number_from base limit m (s ++ (glyph d ∷ [])) ≡ Some (n * base + d)
   one_more m n [] d e h k =
       let c : digit_of (glyph d) ≡ d = digit_glyph d (omega arith) in
       let i : m ≡ n = came_end base limit m n e in
@@ -44,23 +43,23 @@ module _ (base limit : ℕ) (few : base ≤ 16) (some : 0 < base) where
 
   module _ (start : ℕ) (digits : ℕ → ℕ → List ℕ) (w : Writes base start digits) where
     -- what was written is read back
-    read_back : (k n : ℕ) → n < base ^ k → n ≤ limit → number_from base limit 0 (digits k n) ≡ Is n
-    read_back zero n h l = rw (← w.none n) (sym (ended _ _ _) ∙ ap Is (omega (arith, pow-zero base)))
+    read_back : (k n : ℕ) → n < base ^ k → n ≤ limit → number_from base limit 0 (digits k n) ≡ Some n
+    read_back zero n h l = rw (← w.none n) (sym (ended _ _ _) ∙ ap Some (omega (arith, pow-zero base)))
     read_back (suc k) n h l =
         let less : n / base < base ^ k = (div-lt_iff_lt-mul some).1 (rw pow-suc at h) in
         side (dec_le start (n / base)) (read_back k (n / base) less (le_trans (div-le_self n base) l))
       where
-        side : Dec (start ≤ n / base) → number_from base limit 0 (digits k (n / base)) ≡ Is (n / base)
-            → number_from base limit 0 (digits (suc k) n) ≡ Is n
+        side : Dec (start ≤ n / base) → number_from base limit 0 (digits k (n / base)) ≡ Some (n / base)
+            → number_from base limit 0 (digits (suc k) n) ≡ Some n
         side (yes p) e =
             let all : n / base * base + n % base ≡ n = div-add-mod' n base in
-            rw (← w.more k n p) (one_more 0 (n / base) (digits k (n / base)) (n % base) e (mod-lt n some) (rw all l) ∙ ap Is all)
+            rw (← w.more k n p) (one_more 0 (n / base) (digits k (n / base)) (n % base) e (mod-lt n some) (rw all l) ∙ ap Some all)
         side (no p) e =
             let a = w.alone k n (omega arith) in
-            rw (← a.1) (one_more 0 0 [] n (sym (ended _ _ _)) a.0 (omega arith) ∙ ap Is (omega arith))
+            rw (← a.1) (one_more 0 0 [] n (sym (ended _ _ _)) a.0 (omega arith) ∙ ap Some (omega arith))
 
     -- what is read on after m are the digits that would be written on
-    read_on : (j m n : ℕ) (s : List ℕ) → start ≤ m → number_from base limit m s ≡ Is n → digits j m ++ s ≡ digits (j + length s) n
+    read_on : (j m n : ℕ) (s : List ℕ) → start ≤ m → number_from base limit m s ≡ Some n → digits j m ++ s ≡ digits (j + length s) n
     read_on j m n [] h e = rw (append-nil, came_end base limit m n e, add-zero)
     read_on j m n (b ∷ s) h e =
         let v = came_digit base limit m b s n e in
@@ -79,14 +78,14 @@ hex_writes : Writes 16 0 hex_digits
 unfolding hex_digits
 hex_writes = record { none = λ n. refl; more = λ k n h. hex_more k n; alone = λ k n h. absurd (let z : ⊥ = omega arith in z) }
 
-hex_back : (n : ℕ) → n ≤ 0xffff_ffff → hex_of (hex_bytes n) ≡ Is n
+hex_back : (n : ℕ) → n ≤ 0xffff_ffff → hex_of (hex_bytes n) ≡ Some n
 unfolding hex_bytes
 hex_back n h =
     let small : n < 16 ^ 8 = omega arith in
     let e = read_back 16 0xffff_ffff (omega arith) (omega arith) 0 hex_digits hex_writes 8 n small h in
     sym (hex_number (hex_digits 8 n) (hex_digits_lem 8 n) (sym e))
 
-hex_only : (s : List ℕ) (n : ℕ) → hex_of s ≡ Is n → s ≡ hex_bytes n
+hex_only : (s : List ℕ) (n : ℕ) → hex_of s ≡ Some n → s ≡ hex_bytes n
 unfolding hex_bytes
 hex_only s n e =
     let v = came_hex s n e in
@@ -127,22 +126,22 @@ leads (suc k) n p h = side (dec_lt n 10) (λ (q : 1 ≤ n / 10). leads k (n / 10
     side (yes q) before = rw (← dec_one k n q) (no_zero n p q)
     side (no q) before = rw (← dec_more k n (omega arith)) (leads_on (dec_digits k (n / 10)) (glyph (n % 10) ∷ []) (before (omega arith)))
 
-leads_dec : (l : List ℕ) {r : Number} → Leads l → r ≡ number_from 10 65535 0 l → r ≡ dec_of l
+leads_dec : (l : List ℕ) {r : Option ℕ} → Leads l → r ≡ number_from 10 65535 0 l → r ≡ dec_of l
 leads_dec [] h e = absurd h
 leads_dec (b ∷ l) h e = dec_number (b ∷ l) (λ (z : length (b ∷ l) ≡ 0). omega arith) (not_first (ltb 1 (length (b ∷ l))) (ne_eqb b 48 h)) e
 
-zero_back : dec_of (dec_digits 20 0) ≡ Is 0
+zero_back : dec_of (dec_digits 20 0) ≡ Some 0
 unfolding dec_of dec_digits number_from digit_of glyph
 zero_back = refl
 
-dec_back : (n : ℕ) → n ≤ 65535 → dec_of (dec_bytes n) ≡ Is n
+dec_back : (n : ℕ) → n ≤ 65535 → dec_of (dec_bytes n) ≡ Some n
 unfolding dec_bytes
 dec_back n h = side (dec_le 1 n)
   where
     small : n < 10 ^ 20
     small = lt_of_le_of_lt h (lit< tt)
 
-    side : Dec (1 ≤ n) → dec_of (dec_digits 20 n) ≡ Is n
+    side : Dec (1 ≤ n) → dec_of (dec_digits 20 n) ≡ Some n
     side (yes p) =
         let e = read_back 10 65535 (omega arith) (omega arith) 1 dec_digits dec_writes 20 n small h in
         sym (leads_dec (dec_digits 20 n) (leads 20 n p small) (sym e))
@@ -153,7 +152,7 @@ single j b h =
     let z : digit_of b ≡ 0 * 10 + digit_of b = omega arith in
     ap (λ (c : ℕ). c ∷ []) (sym (glyph_digit b (omega arith))) ∙ dec_one j (digit_of b) h ∙ ap (λ (n : ℕ). dec_digits (suc j) n) z
 
-dec_only : (s : List ℕ) (n : ℕ) → dec_of s ≡ Is n → s ≡ dec_bytes n
+dec_only : (s : List ℕ) (n : ℕ) → dec_of s ≡ Some n → s ≡ dec_bytes n
 unfolding dec_bytes
 dec_only [] n e = absurd ((came_dec [] n e).some refl)
 dec_only (b ∷ []) n e =

@@ -1,5 +1,5 @@
 -- What was written, and then more. Assumes nothing.
-use Prim.Native.Nat.{ℕ, suc, ◌+◌, ◌≤◌, ◌<◌, min}
+use Prim.Native.Nat.{ℕ, suc, ◌+◌, ◌≤◌, min}
 use native.Mathlib.Decide.{dec_le}
 use native.Mathlib.Nat.{add-zero, min-eq_left, min-eq_right}
 use native.Mathlib.Omega.{arith}
@@ -7,7 +7,8 @@ use mathlib.Core.Path.{◌≡◌, refl, sym, ◌∙◌, ap}
 use mathlib.Core.List.{List, [], ◌∷◌, ◌++◌}
 use lib.ListN.{length, length-append, set}
 use lib.Seq.{length-sets, set_out, sets}
-use Rattle.text_digits.specs.Wrote.{Wrote}
+use Rattle.text_digits.specs.declared.Page.{Page}
+use Rattle.text_digits.specs.Wrote.{SameBuffer, Writes, Wrote}
 
 sets_append : (o : List ℕ) (at : ℕ) (x y : List ℕ) → sets (sets o at x) (at + length x) y ≡ sets o at (x ++ y)
 sets_append o at [] y = rw add-zero
@@ -47,9 +48,18 @@ then {o} {x} {o1} {y} {o2} {at} {r1} {r2} p q =
 pub nothing : (o : List ℕ) (at : ℕ) → at ≤ length o → Wrote o at [] o at
 nothing o at h = record { bytes = refl; place = omega arith }
 
--- one byte, where there is room; bytes, where there is none
-pub one : (o : List ℕ) (at b : ℕ) → at < length o → Wrote o at (b ∷ []) (set o at b) (at + 1)
-one o at b h = record { bytes = refl; place = omega arith }
+-- the same on a page
+pub still : {p q r : Page} → SameBuffer p q → SameBuffer q r → SameBuffer p r
+still v w = record { same = w.same ∙ v.same; long = w.long ∙ v.long }
 
-pub no_room : (o : List ℕ) (at : ℕ) (w : List ℕ) → length o ≤ at → Wrote o at w o (length o)
-no_room o at w h = record { bytes = sym (sets_out o at w h); place = omega arith }
+pub onward : {p q r : Page} {x y : List ℕ} → Writes p x q → Writes q y r → Writes p (x ++ y) r
+onward v w = record {
+  wrote = then v.wrote w.wrote;
+  buffer = still v.buffer w.buffer;
+}
+
+pub idle : (p : Page) → p.at ≤ length p.out.now → Writes p [] p
+idle p h = record { wrote = nothing p.out.now p.at h; buffer = record { same = refl; long = refl } }
+
+pub ready : {p q : Page} {w : List ℕ} → Writes p w q → q.at ≤ length q.out.now
+ready v = room v.wrote

@@ -1,9 +1,7 @@
 -- Document 01, "Text form": "floats are the bits as eight lower-case hex digits; other numbers are decimal, 0 to 65535, no leading zero",
 -- as they are read and as they are written. A byte is a number, a text a list of bytes. Assumes nothing.
-use Rattle.std.specs.Prelude.{ℕ, zero, suc, ◌+◌, ◌-◌, ◌*◌, ◌/◌, ◌%◌, ◌&&◌, List, [], ◌∷◌, ◌++◌, eqb, leb, ltb, get_or, length}
+use Rattle.std.specs.Prelude.{ℕ, zero, suc, ◌+◌, ◌-◌, ◌*◌, ◌/◌, ◌%◌, ◌&&◌, List, [], ◌∷◌, ◌++◌, eqb, leb, ltb, get_or, length, Option, Some, None}
 use Rattle.base_words.specs.Choice.{if◌then◌otherwise◌}
-use Rattle.text_digits.specs.declared.Number.{Number}
-use Rattle.text_digits.specs.declared.Number.TheVariants.{Is, No}
 
 -- '0' to '9' are 0 to 9, 'a' to 'f' are 10 to 15; any other byte is no digit, which 16 says
 unfoldable pub digit_of : ℕ → ℕ
@@ -11,20 +9,20 @@ digit_of b = if leb 48 b && leb b 57 then b - 48 otherwise if leb 97 b && leb b 
 
 -- the bytes as digits of a base, the highest first, after the number n that was read before them; no number once a byte is no digit of
 -- the base, or the number is above the limit
-unfoldable pub number_from : ℕ → ℕ → ℕ → List ℕ → Number
-number_from base limit n [] = Is n
+unfoldable pub number_from : ℕ → ℕ → ℕ → List ℕ → Option ℕ
+number_from base limit n [] = Some n
 number_from base limit n (b ∷ s) =
-    if ltb (digit_of b) base && leb (n * base + digit_of b) limit then number_from base limit (n * base + digit_of b) s otherwise No
+    if ltb (digit_of b) base && leb (n * base + digit_of b) limit then number_from base limit (n * base + digit_of b) s otherwise None
 
 -- "eight lower-case hex digits"
-unfoldable pub hex_of : List ℕ → Number
-hex_of s = if eqb (length s) 8 then number_from 16 0xffff_ffff 0 s otherwise No
+unfoldable pub hex_of : List ℕ → Option ℕ
+hex_of s = if eqb (length s) 8 then number_from 16 0xffff_ffff 0 s otherwise None
 
 -- "decimal, 0 to 65535, no leading zero": at least one digit, and a first 0 stands alone
-unfoldable pub dec_of : List ℕ → Number
+unfoldable pub dec_of : List ℕ → Option ℕ
 dec_of s =
-    if eqb (length s) 0 then No
-    otherwise if eqb (get_or s 0 0) 48 && ltb 1 (length s) then No
+    if eqb (length s) 0 then None
+    otherwise if eqb (get_or s 0 0) 48 && ltb 1 (length s) then None
     otherwise number_from 10 65535 0 s
 
 -- the byte of a digit

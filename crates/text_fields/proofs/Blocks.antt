@@ -1,15 +1,15 @@
 -- The search for a byte by blocks that lack it. Assumes nothing.
-use Prim.Native.Nat.{ℕ, suc, ◌+◌, ◌-◌, ◌≤◌, ◌<◌}
-use native.Mathlib.Nat.{add-sub_cancel_left}
+use Prim.Native.Nat.{ℕ, suc, ◌+◌, ◌≤◌, ◌<◌}
 use native.Mathlib.Numerals.{add-one}
 use native.Mathlib.Omega.{arith}
 use borrow.Author.Tests.{eq-eqb, eqb-false, eqb-true, ne_eqb}
 use mathlib.Core.Bool.{Bool, true, false, ◌&&◌, not}
-use mathlib.Core.List.{List, [], ◌∷◌}
+use mathlib.Core.List.{List, [], ◌∷◌, ◌++◌}
 use mathlib.Core.Path.{◌≡◌, refl, sym, ap, ◌∙◌}
 use lib.Dec.{eqb}
-use lib.ListN.{drop, drop_of_length-le, get_or, length, length-drop, take, take-append-drop}
-use lib.Seq.{drop-cons, drop-drop, length-take-le}
+use lib.ListN.{drop, drop_of_length-le, get_or, length, length-append, length-drop}
+use lib.Seq.{drop-append_seam, drop-cons, drop-drop}
+use Rattle.std.specs.declared.slice.ChunksExact.{ChunksExact}
 use Rattle.text_fields.specs.Fields.{Free, until}
 use Rattle.text_fields.proofs.Runs.{until_past}
 use Rattle.text_fields.proofs.Until.{On, until_here, until_nil, until_on}
@@ -56,14 +56,29 @@ module _ {e : ℕ} {s : List ℕ} {i : ℕ} {free : Bool} (v : Clear e s i free)
   pub clear_all : length s ≤ i → free ≡ is_free e s
   clear_all h = sym (all_true free) ∙ rw (drop_of_length-le s h, free_nil e) at v.same
 
--- the search goes on after a block that lacks e, and what is found from there is found from the start
-module _ {s : List ℕ} {at e i : ℕ} (v : On s at e i) where
-  pub over_block : {free : Bool} (n : ℕ) → i ≤ length s → n ≤ length s - i → free ≡ is_free e (take (i + n - i) (drop i s)) → free ≡ true
-      → On s at e (i + n)
-  over_block n k h f t =
-      let block = take n (drop i s) in
-      let lacking : Free e block = eqb-true (until e block) (length block) (rw add-sub_cancel_left at (sym f ∙ t)) in
-      let long : length block ≡ n = length-take-le n (drop i s) (rw length-drop (omega arith)) in
-      let on : until e (drop i s) ≡ n + until e (drop (i + n) s) =
-      ap (until e) (sym (take-append-drop n (drop i s))) ∙ until_past e block (drop n (drop i s)) lacking ∙ rw (long, drop-drop n i s) in
-      record { same = omega (arith, on, v.same) }
+-- the search by blocks has come to i: no byte e was passed, and the blocks to come are those of what is left
+pub record Come (s : List ℕ) (at e i : ℕ) (blocks : ChunksExact ℕ) : Type 0 where
+  pub passed : On s at e i
+  pub left : drop i s ≡ blocks.rest.now
+  pub from : at ≤ i
+  pub within : i ≤ length s
+  pub wide : blocks.size ≡ 16
+
+-- and goes on after a block that lacks e
+pub over_block : {s : List ℕ} {at e i : ℕ} {blocks more : ChunksExact ℕ} (v : Come s at e i blocks) (block : List ℕ)
+    → blocks.rest.now ≡ block ++ more.rest.now → length block ≡ blocks.size → more.size ≡ blocks.size
+    → {free : Bool} → free ≡ is_free e block → free ≡ true → Come s at e (i + 16) more
+over_block {s} {at} {e} {i} {blocks} {more} v block cut long same f t =
+    let wide : length block ≡ 16 = long ∙ v.wide in
+    let lacking : Free e block = eqb-true (until e block) (length block) (sym f ∙ t) in
+    let parts : drop i s ≡ block ++ more.rest.now = v.left ∙ cut in
+    let on : until e (drop i s) ≡ length block + until e more.rest.now = rw parts (until_past e block more.rest.now lacking) in
+    let left : drop (i + 16) s ≡ more.rest.now = sym (drop-drop 16 i s) ∙ rw (parts, ← wide) (drop-append_seam block more.rest.now) in
+    let room : length (drop i s) ≡ length block + length more.rest.now = rw parts (length-append block more.rest.now) in
+    record {
+      passed = record { same = rw left (omega (arith, on, wide, v.passed.same)) };
+      left = left;
+      from = omega (arith, v.from);
+      within = omega (arith, room, wide, length-drop i s);
+      wide = same ∙ v.wide;
+    }

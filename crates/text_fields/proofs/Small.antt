@@ -3,8 +3,8 @@ use Prim.Native.Nat.{ℕ, zero, suc, ◌≤◌}
 use native.Mathlib.Omega.{arith}
 use mathlib.Core.List.{List, [], ◌∷◌, ◌++◌}
 use mathlib.Core.Path.{◌≡◌}
-use lib.ListN.{get_or, set, take}
-use Rattle.text_digits.specs.declared.Number.TheVariants.{Is}
+use lib.ListN.{drop, get_or, replicate, take}
+use Rattle.std.specs.Prelude.{Some}
 use Rattle.text_digits.proofs.Forms.{dec_small, hex_small}
 use Rattle.text_fields.specs.Fields.{in_form}
 use Rattle.text_fields.specs.Got.{Small, most}
@@ -12,7 +12,7 @@ use Rattle.text_fields.specs.declared.Form.{Form}
 use Rattle.text_fields.specs.declared.Form.TheVariants.{Decimal, Hex}
 
 -- a field says no larger number than its form has
-pub in_form_small : (form : Form) (f : List ℕ) (n : ℕ) → in_form form f ≡ Is n → n ≤ most form
+pub in_form_small : (form : Form) (f : List ℕ) (n : ℕ) → in_form form f ≡ Some n → n ≤ most form
 in_form_small Decimal f n e = dec_small f n e
 in_form_small Hex f n e = hex_small f n e
 
@@ -26,10 +26,14 @@ module _ (m : ℕ) where
   take_small (suc n) [] h = tt
   take_small (suc n) (x ∷ l) h = (h.0, take_small n l h.1)
 
-  pub set_small : (l : List ℕ) (i x : ℕ) → Small m l → x ≤ m → Small m (set l i x)
-  set_small [] i x h k = tt
-  set_small (y ∷ l) zero x h k = (k, h.1)
-  set_small (y ∷ l) (suc i) x h k = (h.0, set_small l i x h.1 k)
+  pub drop_small : (n : ℕ) (l : List ℕ) → Small m l → Small m (drop n l)
+  drop_small zero l h = h
+  drop_small (suc n) [] h = tt
+  drop_small (suc n) (x ∷ l) h = drop_small n l h.1
+
+  pub zeros_small : (n : ℕ) → Small m (replicate n 0)
+  zeros_small zero = tt
+  zeros_small (suc n) = (omega arith, zeros_small n)
 
   pub small_at : (l : List ℕ) (i : ℕ) → Small m l → get_or l i 0 ≤ m
   small_at [] i h = omega arith

@@ -4,85 +4,80 @@ use Prim.Native.Nat.{ℕ, suc, ◌+◌, ◌-◌, ◌≤◌, ◌<◌}
 use native.Mathlib.Nat.{add-sub_cancel_left}
 use native.Mathlib.Numerals.{add-one}
 use native.Mathlib.Omega.{arith}
-use mathlib.Core.Bool.{true, false}
 use mathlib.Core.List.{List, [], ◌∷◌}
-use mathlib.Core.Path.{◌≡◌, sym, ap, ◌∙◌}
+use mathlib.Core.Path.{◌≡◌, sym, ◌∙◌}
 use lib.ListN.{drop, length, length-set, set, take}
 use lib.Seq.{take-suc-set}
-use Rattle.base_places.specs.Places.{normal_width}
-use Rattle.text_digits.specs.declared.Number.{Number}
-use Rattle.text_digits.specs.declared.Number.TheVariants.{Is, No}
-use Rattle.text_fields.specs.Fields.{These, fields_from, in_form, onward, takes, until}
-use Rattle.text_fields.specs.Got.{ReadField, ReadFields, Small, got_from, most}
+use Rattle.std.specs.Prelude.{Option, Some, None}
+use Rattle.std.proofs.lemmas.List.{take_all}
+use Rattle.text_fields.specs.Fields.{fields_from, in_form, takes, until}
+use Rattle.text_fields.specs.Got.{ReadField, ReadFields, Small, most}
 use Rattle.text_fields.specs.declared.Field.{Field}
-use Rattle.text_fields.specs.declared.Field.TheVariants.{Holds, Bad}
 use Rattle.text_fields.specs.declared.Form.{Form}
-use Rattle.text_fields.proofs.Small.{in_form_small, set_small}
+use Rattle.text_fields.proofs.Small.{both_small, in_form_small}
 use Rattle.text_fields.proofs.Until.{first, past}
 
-bad_holds : {A : Type 0} (x next : ℕ) → Bad ≡ Holds x next → A
-bad_holds x next e = absurd (let z : ◌≡◌ {A = ℕ} 0 1 = cc in omega arith)
+none_some : {A : Type 0} (f : Field) → None ≡ Some f → A
+none_some f e = absurd (let z : ◌≡◌ {A = ℕ} 0 1 = cc in omega arith)
 
 -- one field
 module _ (form : Form) (s : List ℕ) (at : ℕ) where
-  pub no_field : length s < at → ReadField form s at Bad
+  pub no_field : length s < at → ReadField form s at None
   unfolding takes
   no_field h = record {
-    more = λ got k x next e. bad_holds x next e;
+    more = λ got k f e. none_some f e;
     none = λ got k e. rw (past s at h);
-    small = λ x next e. bad_holds x next e;
+    small = λ f e. none_some f e;
   }
 
-  module _ (h : at ≤ length s) (end : ℕ) (at_end : end ≡ at + until 9 (drop at s)) {v : Number}
+  module _ (h : at ≤ length s) (end : ℕ) (at_end : end ≡ at + until 9 (drop at s)) {v : Option ℕ}
       (said : v ≡ in_form form (take (end - at) (drop at s))) where
     split : fields_from s at ≡ take (end - at) (drop at s) ∷ fields_from s (end + 1)
     split = rw (at_end, add-sub_cancel_left) (first s at h)
 
-    pub holds : (x : ℕ) → v ≡ Is x → ReadField form s at (Holds x (end + 1))
-    unfolding takes onward
+    pub holds : (x : ℕ) → v ≡ Some x → ReadField form s at (Some (record { value = x; next = end + 1 }))
+    unfolding takes
     holds x e = record {
-      more = λ got k x' next q. let p : x ≡ x' = cc in let p' : end + 1 ≡ next = cc in rw (split, ← said, e, p, p');
-      none = λ got k q. bad_holds x (end + 1) (sym q);
-      small = λ x' next q. let p : x ≡ x' = cc in rw (← p) (in_form_small form (take (end - at) (drop at s)) x (sym said ∙ e));
+      more = λ got k f q. let p : x ≡ f.value = cc in let p' : end + 1 ≡ f.next = cc in rw (split, ← said, e, p, p');
+      none = λ got k q. none_some (record { value = x; next = end + 1 }) (sym q);
+      small = λ f q. let p : x ≡ f.value = cc in rw (← p) (in_form_small form (take (end - at) (drop at s)) x (sym said ∙ e));
     }
 
-    pub no_number : v ≡ No → ReadField form s at Bad
-    unfolding takes onward
+    pub no_number : v ≡ None → ReadField form s at None
+    unfolding takes
     no_number e = record {
-      more = λ got k x next q. bad_holds x next q;
+      more = λ got k f q. none_some f q;
       none = λ got k q. rw (split, ← said, e);
-      small = λ x next q. bad_holds x next q;
+      small = λ f q. none_some f q;
     }
 
 -- after i of n fields in a form, what is left from byte `at` on comes to the same as all from byte `from` on
 pub record Left (form : Form) (n i : ℕ) (values s : List ℕ) (at from : ℕ) : Type 0 where
   pub same : takes form (take i values) (n - i) (fields_from s at) ≡ takes form [] n (fields_from s from)
-  pub small : Small (most form) values
-  pub long : length values ≡ normal_width
-  pub few : i ≤ n
+  pub small : Small (most form) (take i values)
+  pub long : length values ≡ n
 
 module _ {form : Form} {n i : ℕ} {values s : List ℕ} {at from : ℕ} (v : Left form n i values s at from) where
-  module _ (h : i < n) {r : Field} (d : ReadField form s at r) where
+  module _ (h : i < n) {r : Option Field} (d : ReadField form s at r) where
     left : n - i ≡ suc (n - (i + 1))
-    left = omega arith
+    left = omega (arith, v.long)
 
-    pub turn : n ≤ normal_width → (x next : ℕ) → r ≡ Holds x next → Left form n (i + 1) (set values i x) s next from
-    turn p x next e =
-        let on = rw (left, d.more (take i values) (n - (i + 1)) x next e) at v.same in
+    pub turn : (f : Field) → r ≡ Some f → Left form n (i + 1) (set values i f.value) s f.next from
+    turn f e =
+        let on = rw (left, d.more (take i values) (n - (i + 1)) f e) at v.same in
         record {
-          same = rw (add-one, take-suc-set values i x (omega arith)) (rw add-one at on);
-          small = set_small (most form) values i x v.small (d.small x next e);
+          same = rw (add-one, take-suc-set values i f.value (omega (arith, v.long))) (rw add-one at on);
+          small = rw (add-one, take-suc-set values i f.value (omega (arith, v.long))) (both_small (most form) (take i values) (f.value ∷ []) v.small (d.small f e, tt));
           long = rw (length-set) v.long;
-          few = omega arith;
         }
 
-    pub stop : r ≡ Bad → ReadFields form s from n (record { good = false; next = at; values = values })
-    unfolding got_from
-    stop e = record { is = rw (left, d.none (take i values) (n - (i + 1)) e) at v.same; small = v.small }
+    pub stop : r ≡ None → {w : List ℕ} → ReadFields form s from n w None
+    unfolding takes
+    stop e = record { is = rw (left, d.none (take i values) (n - (i + 1)) e) at v.same; small = tt }
 
-  pub all_got : n ≤ i → ReadFields form s from n (record { good = true; next = at; values = values })
-  unfolding got_from takes
+  pub all_got : n ≤ i → ReadFields form s from n values (Some at)
+  unfolding takes
   all_got h =
-      let e : n - i ≡ 0 = omega (arith, v.few) in
-      let e' : i ≡ n = omega (arith, v.few) in
-      record { is = ap (λ (k : ℕ). These (take k values) (fields_from s at)) (sym e') ∙ rw e at v.same; small = v.small }
+      let e : n - i ≡ 0 = omega (arith, v.long) in
+      let all : take i values ≡ values = take_all i values (omega (arith, v.long)) in
+      record { is = rw (e, all) at v.same; small = rw all at v.small }

@@ -41,8 +41,8 @@ module _ {s : List ℕ} {at e i : ℕ} (v : On s at e i) where
       let f = rw (drop-cons s i 0 h, until_here _ p) at v.same in
       omega arith
 
-  pub end : length s ≤ i → i ≡ at + until e (drop at s)
-  end h =
+  pub end : length s ≤ i → i ≤ length s → length s ≡ at + until e (drop at s)
+  end h k =
       let f = rw (drop_of_length-le s h, until_nil e) at v.same in
       omega arith
 

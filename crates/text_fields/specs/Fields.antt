@@ -1,9 +1,7 @@
 -- Document 01, "Text form": "fields parted by one tab", and what fields say as numbers. Assumes nothing.
-use Rattle.std.specs.Prelude.{ℕ, zero, suc, List, [], ◌∷◌, ◌++◌, ◌≡◌, eqb, leb, drop, length}
+use Rattle.std.specs.Prelude.{ℕ, zero, suc, List, [], ◌∷◌, ◌++◌, ◌≡◌, eqb, leb, drop, length, Option, Some, None, option_and_then}
 use Rattle.base_words.specs.Choice.{if◌then◌otherwise◌}
 use Rattle.text_digits.specs.Digits.{dec_of, hex_of}
-use Rattle.text_digits.specs.declared.Number.{Number}
-use Rattle.text_digits.specs.declared.Number.TheVariants.{Is, No}
 use Rattle.text_fields.specs.declared.Form.{Form}
 use Rattle.text_fields.specs.declared.Form.TheVariants.{Decimal, Hex}
 
@@ -31,41 +29,34 @@ unfoldable pub fields_from : List ℕ → ℕ → List (List ℕ)
 fields_from s at = if leb at (length s) then fields (drop at s) otherwise []
 
 -- "floats are the bits as eight lower-case hex digits; other numbers are decimal"
-abbrev pub in_form : Form → List ℕ → Number
+abbrev pub in_form : Form → List ℕ → Option ℕ
 in_form Decimal f = dec_of f
 in_form Hex f = hex_of f
 
--- numbers that fields say, and the fields after them; or none, where one is not in its form or missing
+-- numbers that fields say, and the fields after them
 pub data Taken : Type 0 where
   These : List ℕ → List (List ℕ) → Taken
-  None : Taken
 
-unfoldable pub onward : Number → (ℕ → Taken) → Taken
-onward (Is n) go_on = go_on n
-onward No go_on = None
-
--- k fields in one form, after the numbers that were got before them
-unfoldable pub takes : Form → List ℕ → ℕ → List (List ℕ) → Taken
-takes form got zero fs = These got fs
+-- k fields in one form, after the numbers that were got before them; none, where one is not in its form or missing
+unfoldable pub takes : Form → List ℕ → ℕ → List (List ℕ) → Option Taken
+takes form got zero fs = Some (These got fs)
 takes form got (suc k) [] = None
-takes form got (suc k) (f ∷ fs) = onward (in_form form f) (λ n. takes form (got ++ (n ∷ [])) k fs)
+takes form got (suc k) (f ∷ fs) = option_and_then (λ n. takes form (got ++ (n ∷ [])) k fs) (in_form form f)
 
--- what a whole line says after its letter: decimal numbers, and floats' bits; or nothing, where its fields are not of its letter's
--- number or form
+-- what a whole line says after its letter: decimal numbers, and floats' bits
 pub data Values : Type 0 where
   Says : List ℕ → List ℕ → Values
-  Nothing : Values
 
 -- no field is left over
-unfoldable pub ended : List ℕ → Taken → Values
-ended numbers (These bits []) = Says numbers bits
-ended numbers (These bits (f ∷ fs)) = Nothing
-ended numbers None = Nothing
+unfoldable pub ended : List ℕ → Option Taken → Option Values
+ended numbers (Some (These bits [])) = Some (Says numbers bits)
+ended numbers (Some (These bits (f ∷ fs))) = None
+ended numbers None = None
 
-unfoldable pub then_bits : ℕ → Taken → Values
-then_bits k (These numbers fs) = ended numbers (takes Hex [] k fs)
-then_bits k None = Nothing
+unfoldable pub then_bits : ℕ → Option Taken → Option Values
+then_bits k (Some (These numbers fs)) = ended numbers (takes Hex [] k fs)
+then_bits k None = None
 
--- d decimal numbers, then k floats, "field count or field form"
-unfoldable pub values : ℕ → ℕ → List (List ℕ) → Values
+-- d decimal numbers, then k floats; none, where the fields are not of that number or form: "field count or field form"
+unfoldable pub values : ℕ → ℕ → List (List ℕ) → Option Values
 values d k fs = then_bits k (takes Decimal [] d fs)

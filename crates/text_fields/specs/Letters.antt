@@ -1,5 +1,5 @@
 -- Document 01, "Text form": the letters, and how many numbers follow each. Assumes nothing.
-use Rattle.std.specs.Prelude.{ℕ, ◌+◌, List, [], ◌∷◌, eqb, get_or, length}
+use Rattle.std.specs.Prelude.{ℕ, ◌+◌, List, [], ◌∷◌, eqb, get_or, length, Option}
 use Rattle.base_words.specs.Choice.{if◌then◌otherwise◌}
 use Rattle.base_places.specs.Places.{body_width, head_width, normal_width, numbers_width, step_width, tangent_width}
 use Rattle.text_fields.specs.Fields.{Values, fields, values}
@@ -44,8 +44,8 @@ unfoldable pub after_letter : List (List ℕ) → List (List ℕ)
 after_letter [] = []
 after_letter (f ∷ fs) = fs
 
--- what a line of a letter says
-unfoldable pub says : Letter → List ℕ → Values
+-- what a line of a letter says; none, where its fields are not of its letter's number or form
+unfoldable pub says : Letter → List ℕ → Option Values
 says l line = values (asked Decimal l) (asked Hex l) (after_letter (fields line))
 
 -- the letter of a line

@@ -9,15 +9,14 @@ ghost use Rattle.text_fields.specs.Got.{Adds, ReadField, ReadFields, ReadRow};
 ghost use Rattle.text_fields.specs.declared.Form.TheVariants.{Decimal, Hex};
 
 use base_places::{BODY_WIDTH, HEAD_WIDTH, NORMAL_WIDTH, NUMBERS_WIDTH, STEP_WIDTH, TANGENT_WIDTH};
-use text_digits::Number;
 
 // What parts two fields.
-const TAB: u8 = 9;
+const TAB: u8 = b'\t';
 
 // So many bytes are looked at together.
 const BLOCK: usize = 16;
 
-#[derive(Clone, Copy)]
+#[derive(Clone, Copy, PartialEq, Eq)]
 pub enum Letter {
     Body,
     Contact,
@@ -35,7 +34,7 @@ pub enum Form {
 }
 
 // So many numbers of each table: bodies' floats, contacts' numbers and floats, steps' numbers.
-#[derive(Clone, Copy)]
+#[derive(Clone, Copy, Default)]
 pub struct Counts {
     pub bodies: usize,
     pub numbers: usize,
@@ -45,65 +44,58 @@ pub struct Counts {
 
 // What a field says, and the byte after the tab that ends it.
 #[derive(Clone, Copy)]
-pub enum Field {
-    Holds(u32, usize),
-    Bad,
-}
-
-// What several fields say, from the front, and the byte after the tab that ends them. None has more of one form than an
-// N line.
-#[derive(Clone, Copy)]
-pub struct Got {
-    pub good: bool,
+pub struct Field {
+    pub value: u32,
     pub next: usize,
-    pub values: [u32; NORMAL_WIDTH],
 }
 
-// What a line says after its letter, from the front; nothing, where it is not good.
+// What a line says after its letter, from the front. No line has more of one form than an N line.
 #[derive(Clone, Copy)]
 pub struct Row {
-    pub good: bool,
     pub numbers: [u32; NORMAL_WIDTH],
     pub bits: [u32; NORMAL_WIDTH],
 }
 
-fn letter_of(b: u8) -> Letter
-    ensures { result ≡ letter_of b }
-{
-    match b {
-        66 => Letter::Body,
-        67 => Letter::Contact,
-        78 => Letter::Normal,
-        84 => Letter::Tangent,
-        83 => Letter::Step,
-        _ => Letter::Other,
+// B, C, N, T and S; any other byte is no known letter.
+impl From<u8> for Letter {
+    ghost from_gives = { λ b l. l ≡ letter_of b };
+
+    #[tactic(auto, unfolding(crate::specs::Letters::letter_of))]
+    fn from(b: u8) -> Letter {
+        match b {
+            b'B' => Letter::Body,
+            b'C' => Letter::Contact,
+            b'N' => Letter::Normal,
+            b'T' => Letter::Tangent,
+            b'S' => Letter::Step,
+            _ => Letter::Other,
+        }
     }
 }
 
 // The place from `at` on of the first byte `end`, byte after byte; the end of s, where there is none.
+#[tactic(auto, using(crate::proofs::Until::end, crate::proofs::Until::here, crate::proofs::Until::on))]
 fn seek(s: &[u8], at: usize, end: u8) -> usize
     requires { at ≤ length s.now }
     ensures { (result ≡ at + until end (drop at s.now)) × (at ≤ result) × (result ≤ length s.now) }
 {
-    let mut i = at;
-    while i < s.len() {
+    for i in at..s.len() {
         if s[i] == end {
             return i;
         }
-        i += 1;
     }
-    i
+    s.len()
 }
 
-// Whether no byte is `end`. All are looked at, so that a processor can do so with many at once.
+// Whether no byte is `end`. All are looked at, so that a processor can do so with many at once; with `contains` or `any`,
+// which stop at the first, a night takes a third longer or more to read.
+#[tactic(auto, using(crate::proofs::Blocks::clear_all, crate::proofs::Blocks::clear_on))]
 fn lacks(s: &[u8], end: u8) -> bool
     ensures { result ≡ eqb (until end s.now) (length s.now) }
 {
     let mut free = true;
-    let mut i = 0;
-    while i < s.len() {
-        free = free & (s[i] != end);
-        i += 1;
+    for b in s {
+        free = free & (*b != end);
     }
     free
 }
@@ -114,17 +106,17 @@ pub fn run_end(s: &[u8], at: usize, end: u8) -> usize
     ensures { (result ≡ at + until end (drop at s.now)) × (at ≤ result) × (result ≤ length s.now) }
 {
     let mut i = at;
-    while BLOCK <= s.len() - i {
-        let next = i + BLOCK;
-        if !lacks(&s[i..next], end) {
+    for block in s[at..].chunks_exact(BLOCK) {
+        if !lacks(block, end) {
             return seek(s, i, end);
         }
-        i = next;
+        i += BLOCK;
     }
     seek(s, i, end)
 }
 
 // Where a line's first field ends: after one byte in every good line.
+#[tactic(auto, using(crate::proofs::Until::tab_second))]
 fn first_end(line: &[u8]) -> usize
     ensures { (result ≡ 0 + until 9 (drop 0 line.now)) × (result ≤ length line.now) }
 {
@@ -143,7 +135,7 @@ pub fn line_letter(line: &[u8]) -> Letter
 {
     let end = first_end(line);
     if end == 1 {
-        letter_of(line[0])
+        Letter::from(line[0])
     } else {
         Letter::Other
     }
@@ -153,12 +145,7 @@ pub fn line_letter(line: &[u8]) -> Letter
 pub fn adds(l: Letter) -> Counts
     ensures { Adds l result }
 {
-    let mut counts = Counts {
-        bodies: 0,
-        numbers: 0,
-        floats: 0,
-        steps: 0,
-    };
+    let mut counts = Counts::default();
     match l {
         Letter::Body => counts.bodies = BODY_WIDTH,
         Letter::Contact => {
@@ -174,21 +161,23 @@ pub fn adds(l: Letter) -> Counts
 }
 
 // The decimal field that starts at byte `at`.
-fn read_decimal(s: &[u8], at: usize) -> Field
+#[tactic(auto, using(crate::proofs::Turn::holds, crate::proofs::Turn::no_field, crate::proofs::Turn::no_number))]
+fn read_decimal(s: &[u8], at: usize) -> Option<Field>
     ensures { ReadField Decimal s.now at result }
 {
     if s.len() < at {
-        return Field::Bad;
+        return None;
     }
     let end = seek(s, at, TAB);
-    let v = text_digits::dec(&s[at..end]);
-    match v {
-        Number::Is(x) => Field::Holds(x, end + 1),
-        Number::No => Field::Bad,
-    }
+    let value = text_digits::dec(&s[at..end])?;
+    Some(Field {
+        value,
+        next: end + 1,
+    })
 }
 
 // Whether a field may end at byte `at`: a tab stands there, or the line ends.
+#[tactic(auto, using(crate::proofs::Until::line_over, crate::proofs::Until::tab_there))]
 fn ends(s: &[u8], at: usize) -> bool
     requires { at ≤ length s.now }
     ensures { result ≡ eqb (until 9 (drop at s.now)) 0 }
@@ -197,28 +186,29 @@ fn ends(s: &[u8], at: usize) -> bool
 }
 
 // The float that starts at byte `at`: eight digits, so its end need not be looked for.
-fn read_float(s: &[u8], at: usize) -> Field
+#[tactic(auto, using(crate::proofs::Turn::no_field, crate::proofs::Eight::eight_go_on, crate::proofs::Eight::eight_held, crate::proofs::Eight::eight_no, crate::proofs::Eight::eight_short))]
+fn read_float(s: &[u8], at: usize) -> Option<Field>
     ensures { ReadField Hex s.now at result }
 {
     if s.len() < at {
-        return Field::Bad;
+        return None;
     }
     if s.len() - at < 8 {
-        return Field::Bad;
+        return None;
     }
     let end = at + 8;
     if !ends(s, end) {
-        return Field::Bad;
+        return None;
     }
-    let v = text_digits::hex(&s[at..end]);
-    match v {
-        Number::Is(x) => Field::Holds(x, end + 1),
-        Number::No => Field::Bad,
-    }
+    let value = text_digits::hex(&s[at..end])?;
+    Some(Field {
+        value,
+        next: end + 1,
+    })
 }
 
 // The field that starts at byte `at`.
-fn read_field(form: Form, s: &[u8], at: usize) -> Field
+fn read_field(form: Form, s: &[u8], at: usize) -> Option<Field>
     ensures { ReadField form s.now at result }
 {
     match form {
@@ -227,52 +217,34 @@ fn read_field(form: Form, s: &[u8], at: usize) -> Field
     }
 }
 
-// n fields from byte `from` on.
-fn read_fields(form: Form, s: &[u8], from: usize, n: usize) -> Got
-    requires { n ≤ normal_width }
-    ensures { ReadFields form s.now from n result }
+// A field for each of `values`, from byte `from` on, and the byte after the tab that ends them.
+fn read_fields(form: Form, s: &[u8], from: usize, values: &mut [u32]) -> Option<usize>
+    ensures { ReadFields form s.now from (length values.old) values.new result }
 {
-    let mut values = [0u32; NORMAL_WIDTH];
-    let mut at = from;
-    let mut i = 0;
-    while i < n {
-        let field = read_field(form, s, at);
-        match field {
-            Field::Holds(x, next) => {
-                values[i] = x;
-                at = next;
-            }
-            Field::Bad => {
-                return Got {
-                    good: false,
-                    next: at,
-                    values,
-                };
-            }
-        }
-        i += 1;
+    let mut next = from;
+    for value in values.iter_mut() {
+        let field = read_field(form, s, next)?;
+        *value = field.value;
+        next = field.next;
     }
-    Got {
-        good: true,
-        next: at,
-        values,
-    }
+    Some(next)
 }
 
-// What a line of a letter says.
-pub fn read_row(l: Letter, line: &[u8]) -> Row
+// What a line of a letter says; nothing, where its fields are not of the letter's number or form.
+pub fn read_row(l: Letter, line: &[u8]) -> Option<Row>
     ensures { ReadRow l line.now result }
 {
     let counts = adds(l);
     let end = first_end(line);
-    let first = read_fields(Form::Decimal, line, end + 1, counts.numbers + counts.steps);
-    let second = read_fields(Form::Hex, line, first.next, counts.bodies + counts.floats);
-    let numbers = first.values;
-    let bits = second.values;
-    let next = second.next;
-    Row {
-        good: first.good & second.good & (line.len() < next),
-        numbers,
-        bits,
+    let mut numbers = [0u32; NORMAL_WIDTH];
+    let mut bits = [0u32; NORMAL_WIDTH];
+    let decimals = counts.numbers + counts.steps;
+    let floats = counts.bodies + counts.floats;
+    let middle = read_fields(Form::Decimal, line, end + 1, &mut numbers[..decimals])?;
+    let next = read_fields(Form::Hex, line, middle, &mut bits[..floats])?;
+    if line.len() < next {
+        Some(Row { numbers, bits })
+    } else {
+        None
     }
 }

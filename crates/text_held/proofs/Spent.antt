@@ -8,18 +8,17 @@ use borrow.Author.Tests.{eqb-true, ltb-false}
 use lib.Dec.{eqb}
 use lib.ListN.{length, length-append, take}
 use lib.Seq.{length-take-le}
+use Rattle.std.specs.Prelude.{Option, Some, None}
 use Rattle.base_places.specs.Places.{body_width, head_width, normal_width, numbers_width, step_width, tangent_width}
 use Rattle.base_places.specs.Lengths.{program_bodies, program_contacts, program_steps}
 use Rattle.base_words.proofs.Pick.{never}
 use Rattle.base_words.proofs.Said.{all_l, all_r}
-use Rattle.text_fields.specs.Fields.{Nothing, Says, Values}
+use Rattle.text_fields.specs.Fields.{Says, Values}
 use Rattle.text_fields.specs.Letters.{adds, line_letter, says}
 use Rattle.text_fields.specs.declared.Letter.{Letter}
 use Rattle.text_fields.specs.declared.Letter.TheVariants.{Body, Contact, Normal, Tangent, Step, Other}
 use Rattle.text_line.specs.Night.{Night, blank, of_program}
 use Rattle.text_line.specs.Lines.{LineCame, bad, filled, full, good, in_contact, is, lacks, next_place, ordered, put, read_letter, read_line}
-use Rattle.text_line.specs.declared.Next.{Next}
-use Rattle.text_line.specs.declared.Next.TheVariants.{To, OutOfOrder}
 use Rattle.text_line.specs.declared.Place.{Place}
 use Rattle.text_line.specs.declared.Place.TheVariants.{Bodies, NormalA, TangentA, NormalB, TangentB, Contacts, Steps}
 use Rattle.text_line.proofs.Room.{roomy}
@@ -118,9 +117,9 @@ row Step = record { bodies = refl; numbers = refl; floats = refl; steps = refl; 
 row Other = record { bodies = refl; numbers = refl; floats = refl; steps = refl; line = λ known. never known }
 
 -- a letter in order leaves a contact with the lines that it lacked, but itself; a C opens one
-abbrev leaves : Letter → Place → Next → Bool
-leaves l p OutOfOrder = true
-leaves l p (To q) =
+abbrev leaves : Letter → Place → Option Place → Bool
+leaves l p None = true
+leaves l p (Some q) =
     eqb ((one l).n + normals_left q) (normals_left p + 2 * (one l).c) && eqb ((one l).t + tangents_left q) (tangents_left p + 2 * (one l).c)
 
 each : (f : Place → Bool) → f Bodies ≡ true → f NormalA ≡ true → f TangentA ≡ true → f NormalB ≡ true → f TangentB ≡ true
@@ -141,7 +140,7 @@ all_leave Tangent = each (λ p. leaves Tangent p (next_place Tangent p)) refl re
 all_leave Step = each (λ p. leaves Step p (next_place Step p)) refl refl refl refl refl refl refl
 all_leave Other = each (λ p. leaves Other p (next_place Other p)) refl refl refl refl refl refl refl
 
-left : (l : Letter) (p q : Place) → next_place l p ≡ To q
+left : (l : Letter) (p q : Place) → next_place l p ≡ Some q
     → ((one l).n + normals_left q ≡ normals_left p + 2 * (one l).c) × ((one l).t + tangents_left q ≡ tangents_left p + 2 * (one l).c)
 left l p q e =
     let n = eqb ((one l).n + normals_left q) (normals_left p + 2 * (one l).c) in
@@ -169,7 +168,7 @@ unfolding lacks
 has room more l e = ltb-false _ _ e
 
 module _ (t : Night) (numbers bits : List ℕ) (n : ℕ) (before : Spent t n) where
-  spent_on : (l : Letter) (q : Place) → is l Other ≡ false → next_place l t.place ≡ To q → full of_program l t ≡ false
+  spent_on : (l : Letter) (q : Place) → is l Other ≡ false → next_place l t.place ≡ Some q → full of_program l t ≡ false
       → GoodLine l numbers bits → Spent (put l q numbers bits t) (n + 1)
   unfolding put of_program
   spent_on l q known order room g =
@@ -198,20 +197,20 @@ passed true reason x t e = absurd (let z : ◌≡◌ {A = ℕ} 0 1 = cc in omega
 passed false reason x t e = (refl, e)
 
 module _ (t : Night) (line : List ℕ) (n : ℕ) (before : Spent t n) (t' : Night) (l : Letter) (known : is l Other ≡ false) where
-  spent_filled : (q : Place) → next_place l t.place ≡ To q → (v : Values) → says l line ≡ v → filled of_program l q t v ≡ good t'
+  spent_filled : (q : Place) → next_place l t.place ≡ Some q → (v : Option Values) → says l line ≡ v → filled of_program l q t v ≡ good t'
       → Spent t' (n + 1)
   unfolding filled
-  spent_filled q order (Says numbers bits) said e =
+  spent_filled q order (Some (Says numbers bits)) said e =
       let room = passed (full of_program l t) 5 (good (put l q numbers bits t)) t' e in
       let same : put l q numbers bits t ≡ t' = cc room.1 in
       rw same at (spent_on t numbers bits n before l q known order room.0 (good_line line l numbers bits said))
-  spent_filled q order Nothing said e = absurd (let z : ◌≡◌ {A = ℕ} 0 1 = cc in omega arith)
+  spent_filled q order None said e = absurd (let z : ◌≡◌ {A = ℕ} 0 1 = cc in omega arith)
 
-  spent_ordered : (next : Next) → next_place l t.place ≡ next → ordered of_program l next t (says l line) ≡ good t'
+  spent_ordered : (next : Option Place) → next_place l t.place ≡ next → ordered of_program l next t (says l line) ≡ good t'
       → Spent t' (n + 1)
   unfolding ordered
-  spent_ordered (To q) order e = spent_filled q order (says l line) refl e
-  spent_ordered OutOfOrder order e = absurd (let z : ◌≡◌ {A = ℕ} 0 1 = cc in omega arith)
+  spent_ordered (Some q) order e = spent_filled q order (says l line) refl e
+  spent_ordered None order e = absurd (let z : ◌≡◌ {A = ℕ} 0 1 = cc in omega arith)
 
 -- one line more
 pub line_spent : (t : Night) (line : List ℕ) (n : ℕ) → Spent t n → (t' : Night) → read_line of_program t line ≡ good t' → Spent t' (n + 1)

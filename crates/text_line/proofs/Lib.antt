@@ -1,4 +1,3 @@
-pub mod Order
 pub mod Room
 pub mod Stored
 pub mod Opened

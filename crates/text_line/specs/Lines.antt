@@ -1,17 +1,15 @@
 -- Document 01, "Text form": what a line adds to what has been read, or the reason why it is bad. Assumes nothing.
 -- "2 first field no known letter (an empty line too), 3 letter out of order .., 4 field count or field form, 5 table full; tested in
 -- that order"
-use Rattle.std.specs.Prelude.{ℕ, ◌+◌, Bool, true, false, ◌||◌, List, ◌++◌, eqb, ltb, length, take}
+use Rattle.std.specs.Prelude.{ℕ, ◌+◌, Bool, true, false, ◌||◌, List, ◌++◌, Option, None, Some, eqb, ltb, length, take}
 use Rattle.base_words.specs.Choice.{if◌then◌otherwise◌}
 use Rattle.base_places.specs.Places.{floats_width}
-use Rattle.text_fields.specs.Fields.{Nothing, Says, Values}
+use Rattle.text_fields.specs.Fields.{Says, Values}
 use Rattle.text_fields.specs.Letters.{adds, line_letter, says}
 use Rattle.text_fields.specs.declared.Counts.{Counts}
 use Rattle.text_fields.specs.declared.Letter.{Letter}
 use Rattle.text_fields.specs.declared.Letter.TheVariants.{Body, Contact, Normal, Tangent, Step, Other}
 use Rattle.text_line.specs.Night.{Night}
-use Rattle.text_line.specs.declared.Next.{Next}
-use Rattle.text_line.specs.declared.Next.TheVariants.{To, OutOfOrder}
 use Rattle.text_line.specs.declared.Place.{Place}
 use Rattle.text_line.specs.declared.Place.TheVariants.{Bodies, NormalA, TangentA, NormalB, TangentB, Contacts, Steps}
 
@@ -27,18 +25,18 @@ number Other = 5
 abbrev pub is : Letter → Letter → Bool
 is l m = eqb (number l) (number m)
 
--- "First all B; then each contact as C, N, T, N, T; then all S": where a letter leads from a place
-abbrev pub on : Letter → Letter → Place → Next → Next
-on l awaited place other = if is l awaited then To place otherwise other
+-- "First all B; then each contact as C, N, T, N, T; then all S": where a letter leads from a place; to none, where it is out of order
+abbrev pub on : Letter → Letter → Place → Option Place → Option Place
+on l awaited place other = if is l awaited then Some place otherwise other
 
-abbrev pub next_place : Letter → Place → Next
-next_place l Bodies = on l Body Bodies (on l Contact NormalA (on l Step Steps OutOfOrder))
-next_place l NormalA = on l Normal TangentA OutOfOrder
-next_place l TangentA = on l Tangent NormalB OutOfOrder
-next_place l NormalB = on l Normal TangentB OutOfOrder
-next_place l TangentB = on l Tangent Contacts OutOfOrder
-next_place l Contacts = on l Contact NormalA (on l Step Steps OutOfOrder)
-next_place l Steps = on l Step Steps OutOfOrder
+abbrev pub next_place : Letter → Place → Option Place
+next_place l Bodies = on l Body Bodies (on l Contact NormalA (on l Step Steps None))
+next_place l NormalA = on l Normal TangentA None
+next_place l TangentA = on l Tangent NormalB None
+next_place l NormalB = on l Normal TangentB None
+next_place l TangentB = on l Tangent Contacts None
+next_place l Contacts = on l Contact NormalA (on l Step Steps None)
+next_place l Steps = on l Step Steps None
 
 -- a contact's lines are not all there yet
 abbrev pub in_contact : Place → Bool
@@ -80,17 +78,17 @@ pub data LineCame : Type 0 where
   bad : ℕ → LineCame
 
 -- 4, then 5
-unfoldable pub filled : Counts → Letter → Place → Night → Values → LineCame
-filled room l place t Nothing = bad 4
-filled room l place t (Says numbers bits) = if full room l t then bad 5 otherwise good (put l place numbers bits t)
+unfoldable pub filled : Counts → Letter → Place → Night → Option Values → LineCame
+filled room l place t None = bad 4
+filled room l place t (Some (Says numbers bits)) = if full room l t then bad 5 otherwise good (put l place numbers bits t)
 
 -- 3
-unfoldable pub ordered : Counts → Letter → Next → Night → Values → LineCame
-ordered room l OutOfOrder t v = bad 3
-ordered room l (To place) t v = filled room l place t v
+unfoldable pub ordered : Counts → Letter → Option Place → Night → Option Values → LineCame
+ordered room l None t v = bad 3
+ordered room l (Some place) t v = filled room l place t v
 
 -- 2
-unfoldable pub read_letter : Counts → Night → Letter → Values → LineCame
+unfoldable pub read_letter : Counts → Night → Letter → Option Values → LineCame
 read_letter room t l v = if is l Other then bad 2 otherwise ordered room l (next_place l t.place) t v
 
 unfoldable pub read_line : Counts → Night → List ℕ → LineCame

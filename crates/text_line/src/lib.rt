@@ -7,17 +7,15 @@ ghost use Rattle.base_places.specs.Places.{normal_width};
 ghost use Rattle.text_fields.specs.Got.{Small, most};
 ghost use Rattle.text_fields.specs.Letters.{adds};
 ghost use Rattle.text_fields.specs.declared.Form.TheVariants.{Decimal};
-ghost use Rattle.text_line.specs.Lines.{asks_floats, in_contact, next_place, number};
-ghost use Rattle.text_line.specs.Lines.{is as Lines·is};
-ghost use Rattle.text_line.specs.Lines.{on as Lines·on};
-ghost use Rattle.text_line.specs.Filled.{Appended, Full, HasRoom, Put, ReadLine, ReadOrdered, Sane, cells};
+ghost use Rattle.text_line.specs.Lines.{asks_floats, in_contact, next_place};
+ghost use Rattle.text_line.specs.Filled.{Appended, Full, HasRoom, Put, ReadLine, SameTables, Sane, lent_cells, reason_number, room_of};
 
 use base_places::{FLOATS_WIDTH, NORMAL_WIDTH};
-use text_fields::{Letter, Row};
+use text_fields::{Counts, Letter, Row};
 
 // The place in the order of lines: among the bodies; in a contact, before its N, T, N or T; after a contact; among the
 // steps.
-#[derive(Clone, Copy)]
+#[derive(Clone, Copy, PartialEq, Eq)]
 pub enum Place {
     Bodies,
     NormalA,
@@ -26,13 +24,6 @@ pub enum Place {
     TangentB,
     Contacts,
     Steps,
-}
-
-// Where a line leads.
-#[derive(Clone, Copy)]
-pub enum Next {
-    To(Place),
-    OutOfOrder,
 }
 
 // The place in the order of lines, and how many numbers of each table are filled.
@@ -45,57 +36,61 @@ pub struct State {
     pub steps: usize,
 }
 
-// What a line came to: the state after it, or the reason why it is bad.
-#[derive(Clone, Copy)]
-pub enum LineRead {
-    Good(State),
-    Bad(u8),
+// The tables that lines are read into, lent by whoever owns them: bodies, contacts' numbers and floats, steps.
+#[derive(Drop)]
+pub struct Tables<'a> {
+    pub bodies: &'a mut [u32],
+    pub numbers: &'a mut [u16],
+    pub floats: &'a mut [u32],
+    pub steps: &'a mut [u16],
 }
 
-fn number_of(l: Letter) -> u8
-    ensures { result ≡ number l }
-{
-    match l {
-        Letter::Body => 0,
-        Letter::Contact => 1,
-        Letter::Normal => 2,
-        Letter::Tangent => 3,
-        Letter::Step => 4,
-        Letter::Other => 5,
+impl Tables<'_> {
+    // How many numbers each table holds.
+    #[tactic(auto, unfolding(crate::specs::Filled::room_of))]
+    pub fn room(&self) -> Counts
+        ensures { result ≡ room_of (lent_cells self.now) }
+    {
+        Counts {
+            bodies: self.bodies.len(),
+            numbers: self.numbers.len(),
+            floats: self.floats.len(),
+            steps: self.steps.len(),
+        }
     }
 }
 
-fn is(l: Letter, m: Letter) -> bool
-    ensures { result ≡ Lines·is l m }
-{
-    number_of(l) == number_of(m)
+// Why a line is bad: document 01's reasons, with their numbers.
+#[derive(Clone, Copy, PartialEq, Eq)]
+pub enum BadLine {
+    TooLong = 1,
+    NoLetter = 2,
+    OutOfOrder = 3,
+    BadField = 4,
+    NoRoom = 5,
 }
 
-// To a place with the letter that is awaited; else elsewhere.
-fn on(l: Letter, awaited: Letter, place: Place, other: Next) -> Next
-    ensures { result ≡ Lines·on l awaited place other }
-{
-    if is(l, awaited) {
-        Next::To(place)
-    } else {
-        other
+impl From<BadLine> for u8 {
+    ghost from_gives = { λ reason n. n ≡ reason_number reason };
+
+    fn from(reason: BadLine) -> u8 {
+        reason as u8
     }
 }
 
-// Where a letter leads from a place.
-fn next_place(l: Letter, p: Place) -> Next
+// Where a letter leads from a place; nowhere, where it is out of order.
+fn next_place(l: Letter, p: Place) -> Option<Place>
     ensures { result ≡ next_place l p }
 {
-    let step = on(l, Letter::Step, Place::Steps, Next::OutOfOrder);
-    let contact = on(l, Letter::Contact, Place::NormalA, step);
-    match p {
-        Place::Bodies => on(l, Letter::Body, Place::Bodies, contact),
-        Place::NormalA => on(l, Letter::Normal, Place::TangentA, Next::OutOfOrder),
-        Place::TangentA => on(l, Letter::Tangent, Place::NormalB, Next::OutOfOrder),
-        Place::NormalB => on(l, Letter::Normal, Place::TangentB, Next::OutOfOrder),
-        Place::TangentB => on(l, Letter::Tangent, Place::Contacts, Next::OutOfOrder),
-        Place::Contacts => contact,
-        Place::Steps => step,
+    match (p, l) {
+        (Place::Bodies, Letter::Body) => Some(Place::Bodies),
+        (Place::Bodies | Place::Contacts, Letter::Contact) => Some(Place::NormalA),
+        (Place::NormalA, Letter::Normal) => Some(Place::TangentA),
+        (Place::TangentA, Letter::Tangent) => Some(Place::NormalB),
+        (Place::NormalB, Letter::Normal) => Some(Place::TangentB),
+        (Place::TangentB, Letter::Tangent) => Some(Place::Contacts),
+        (Place::Bodies | Place::Contacts | Place::Steps, Letter::Step) => Some(Place::Steps),
+        _ => None,
     }
 }
 
@@ -103,15 +98,10 @@ fn next_place(l: Letter, p: Place) -> Next
 pub fn in_contact(p: Place) -> bool
     ensures { result ≡ in_contact p }
 {
-    match p {
-        Place::Bodies => false,
-        Place::NormalA => true,
-        Place::TangentA => true,
-        Place::NormalB => true,
-        Place::TangentB => true,
-        Place::Contacts => false,
-        Place::Steps => false,
-    }
+    matches!(
+        p,
+        Place::NormalA | Place::TangentA | Place::NormalB | Place::TangentB
+    )
 }
 
 // Whether a table of `size` numbers, of which `used` are filled, has no room for more.
@@ -127,7 +117,7 @@ fn asks_floats(l: Letter, floats: usize) -> usize
     requires { floats ≡ (adds l).floats }
     ensures { result ≡ asks_floats l }
 {
-    if is(l, Letter::Contact) {
+    if l == Letter::Contact {
         FLOATS_WIDTH
     } else {
         floats
@@ -135,127 +125,76 @@ fn asks_floats(l: Letter, floats: usize) -> usize
 }
 
 // Whether there is no room for a letter's numbers.
-fn is_full(
-    l: Letter,
-    st: State,
-    bodies: &[u32],
-    numbers: &[u16],
-    floats: &[u32],
-    steps: &[u16],
-) -> bool
-    requires { Sane st (cells bodies.now numbers.now floats.now steps.now) }
-    ensures { Full l st (cells bodies.now numbers.now floats.now steps.now) result }
+fn is_full(l: Letter, st: State, t: &Tables<'_>) -> bool
+    requires { Sane st (lent_cells t.now) }
+    ensures { Full l st (lent_cells t.now) result }
 {
     let counts = text_fields::adds(l);
-    let no_bodies = lacks(bodies.len(), st.bodies, counts.bodies);
-    let no_numbers = lacks(numbers.len(), st.numbers, counts.numbers);
-    let no_floats = lacks(floats.len(), st.floats, asks_floats(l, counts.floats));
-    let no_steps = lacks(steps.len(), st.steps, counts.steps);
+    let no_bodies = lacks(t.bodies.len(), st.bodies, counts.bodies);
+    let no_numbers = lacks(t.numbers.len(), st.numbers, counts.numbers);
+    let no_floats = lacks(t.floats.len(), st.floats, asks_floats(l, counts.floats));
+    let no_steps = lacks(t.steps.len(), st.steps, counts.steps);
     no_bodies | no_numbers | no_floats | no_steps
 }
 
-// The first k of what a row has, put to the end of a table that is filled as far as `at`; and how far it is then.
-fn append_numbers(t: &mut [u16], at: usize, row: [u32; NORMAL_WIDTH], k: usize) -> usize
-    requires { (at + k ≤ length t.old) × (k ≤ normal_width) × Small (most Decimal) row }
-    ensures { Appended t.old at row k t.new result }
+// More numbers, put to the end of a table that is filled as far as `at`; and how far it is then. Most lines have none for
+// three of the four tables: then no copy is begun.
+pub fn append<T: Copy>(t: &mut [T], at: usize, more: &[T]) -> usize
+    requires { at + length more.now ≤ length t.old }
+    ensures { Appended t.old at more.now t.new result }
 {
-    let mut i = 0;
-    while i < k {
-        t[at + i] = row[i] as u16;
-        i += 1;
+    if more.is_empty() {
+        return at;
     }
-    at + k
+    let end = at + more.len();
+    t[at..end].copy_from_slice(more);
+    end
 }
 
-fn append_bits(t: &mut [u32], at: usize, row: [u32; NORMAL_WIDTH], k: usize) -> usize
-    requires { (at + k ≤ length t.old) × (k ≤ normal_width) }
-    ensures { Appended t.old at row k t.new result }
+// Decimal numbers fit in 16 bits.
+fn narrowed(row: [u32; NORMAL_WIDTH]) -> [u16; NORMAL_WIDTH]
+    requires { Small (most Decimal) row }
+    ensures { result ≡ row }
 {
-    let mut i = 0;
-    while i < k {
-        t[at + i] = row[i];
-        i += 1;
+    let mut narrow = [0u16; NORMAL_WIDTH];
+    for (i, n) in row.iter().enumerate() {
+        narrow[i] = *n as u16;
     }
-    at + k
+    narrow
 }
 
 // What a line says, put to the end of the tables.
-fn put_row(
-    l: Letter,
-    place: Place,
-    st: State,
-    row: Row,
-    bodies: &mut [u32],
-    numbers: &mut [u16],
-    floats: &mut [u32],
-    steps: &mut [u16],
-) -> State
-    requires { HasRoom l st (cells bodies.old numbers.old floats.old steps.old) × Small (most Decimal) row.numbers }
-    ensures { Put l place st row.numbers row.bits
-        (cells bodies.old numbers.old floats.old steps.old) result
-        (cells bodies.new numbers.new floats.new steps.new) }
+fn put_row(l: Letter, place: Place, st: State, row: Row, t: &mut Tables<'_>) -> State
+    requires { HasRoom l st (lent_cells t.old) × Small (most Decimal) row.numbers }
+    ensures same { SameTables t.old t.new }
+    ensures put { Put l place st row.numbers row.bits (lent_cells t.old) result (lent_cells t.new) }
 {
     let counts = text_fields::adds(l);
-    let said = row.numbers;
+    let said = narrowed(row.numbers);
     let bits = row.bits;
     State {
         place,
-        bodies: append_bits(bodies, st.bodies, bits, counts.bodies),
-        numbers: append_numbers(numbers, st.numbers, said, counts.numbers),
-        floats: append_bits(floats, st.floats, bits, counts.floats),
-        steps: append_numbers(steps, st.steps, said, counts.steps),
+        bodies: append(&mut *t.bodies, st.bodies, &bits[..counts.bodies]),
+        numbers: append(&mut *t.numbers, st.numbers, &said[..counts.numbers]),
+        floats: append(&mut *t.floats, st.floats, &bits[..counts.floats]),
+        steps: append(&mut *t.steps, st.steps, &said[..counts.steps]),
     }
 }
 
-// A line whose letter leads to a place.
-fn read_ordered(
-    l: Letter,
-    place: Place,
-    st: State,
-    line: &[u8],
-    bodies: &mut [u32],
-    numbers: &mut [u16],
-    floats: &mut [u32],
-    steps: &mut [u16],
-) -> LineRead
-    requires { Sane st (cells bodies.old numbers.old floats.old steps.old) }
-    ensures { ReadOrdered l place st line.now
-        (cells bodies.old numbers.old floats.old steps.old) result
-        (cells bodies.new numbers.new floats.new steps.new) }
-{
-    let row = text_fields::read_row(l, line);
-    if !row.good {
-        return LineRead::Bad(4);
-    }
-    if is_full(l, st, bodies, numbers, floats, steps) {
-        return LineRead::Bad(5);
-    }
-    let next = put_row(l, place, st, row, bodies, numbers, floats, steps);
-    LineRead::Good(next)
-}
-
-// One line.
-pub fn read_line(
-    st: State,
-    line: &[u8],
-    bodies: &mut [u32],
-    numbers: &mut [u16],
-    floats: &mut [u32],
-    steps: &mut [u16],
-) -> LineRead
-    requires { Sane st (cells bodies.old numbers.old floats.old steps.old) }
-    ensures { ReadLine st line.now
-        (cells bodies.old numbers.old floats.old steps.old) result
-        (cells bodies.new numbers.new floats.new steps.new) }
+// One line: tested in the order of the reasons, and stored where none of them is given.
+pub fn read_line(st: State, line: &[u8], t: &mut Tables<'_>) -> Result<State, BadLine>
+    requires { Sane st (lent_cells t.old) }
+    ensures same { SameTables t.old t.new }
+    ensures read { ReadLine st line.now (lent_cells t.old) result (lent_cells t.new) }
 {
     let l = text_fields::line_letter(line);
-    if is(l, Letter::Other) {
-        return LineRead::Bad(2);
+    if l == Letter::Other {
+        return Err(BadLine::NoLetter);
     }
-    let place = st.place;
-    let next = next_place(l, place);
-    match next {
-        Next::OutOfOrder => LineRead::Bad(3),
-        Next::To(p) => read_ordered(l, p, st, line, bodies, numbers, floats, steps),
+    let place = next_place(l, st.place).ok_or(BadLine::OutOfOrder)?;
+    let row = text_fields::read_row(l, line).ok_or(BadLine::BadField)?;
+    if is_full(l, st, t) {
+        return Err(BadLine::NoRoom);
     }
+    Ok(put_row(l, place, st, row, t))
 }

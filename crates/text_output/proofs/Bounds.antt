@@ -22,8 +22,7 @@ use Rattle.text_read.specs.Text.{Text, reading, refused, text_of}
 use Rattle.text_held.specs.Held.{WholeRows}
 use Rattle.text_held.proofs.Held.{tables_hold}
 use Rattle.text_write.specs.Lines.{e_line, r_line}
-use Rattle.text_rows.specs.Tables.{listing}
-use Rattle.text_rows.specs.declared.Listed.TheVariants.{Answers, Bodies, Loads}
+use Rattle.text_rows.specs.Tables.{Answers, Bodies, Loads, listing}
 use Rattle.text_write.proofs.Lengths.{Small, e_line_length, r_line_length, x_line_length}
 use Rattle.text_rows.proofs.Lengths.{answers_length, bodies_length, loads_length}
 use Rattle.text_output.specs.Bounds.{OutputFits}

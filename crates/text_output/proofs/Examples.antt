@@ -22,7 +22,7 @@ use Rattle.list_checks.specs.Checks.{faulty, some_faulty, some_uneven, too_many,
 use Rattle.call_rules.specs.Call.{all_done, nothing_done, one_by_one}
 use Rattle.text_digits.specs.Bits.{printed}
 use Rattle.text_digits.specs.Digits.{dec_bytes, dec_digits, dec_field, dec_of, digit_of, glyph, hex_bytes, hex_digits, hex_field, hex_of, number_from}
-use Rattle.text_fields.specs.Fields.{ended, fields, onto, onward, takes, then_bits, values}
+use Rattle.text_fields.specs.Fields.{ended, fields, onto, takes, then_bits, values}
 use Rattle.text_fields.specs.Letters.{after_letter, letter_in, letter_of, line_letter, says}
 use Rattle.text_line.specs.Night.{Night, blank, of_program}
 use Rattle.text_line.specs.declared.Place.TheVariants.{Steps}
@@ -55,7 +55,7 @@ alone = record { place = Steps; bodies = []; numbers = []; floats = []; steps = 
 
 read : (text_of of_program sample_night ≡ reading [] 8 night) × (text_of of_program [] ≡ reading [] 1 blank) × (text_of of_program step_alone ≡ reading [] 2 alone)
 unfolding text_of unread closed feeds feed line_ended whole_contacts blank of_program read_line read_letter ordered filled full lacks put line_letter letter_in letter_of fields onto
-    says after_letter values then_bits takes onward ended dec_of hex_of number_from digit_of
+    says after_letter values then_bits takes ended dec_of hex_of number_from digit_of
 read = (refl, refl, refl)
 
 told : (answer night ≡ sample_output) × (answer blank ≡ e_0_0) × (answer alone ≡ r_2)

@@ -9,8 +9,7 @@ use Rattle.call_rules.specs.Call.{Ended, Lent, lend, one_by_one}
 use Rattle.text_digits.specs.Bits.{printed, value_of}
 use Rattle.text_line.specs.Night.{Night}
 use Rattle.text_write.specs.Lines.{e_line, r_line}
-use Rattle.text_rows.specs.Tables.{listing}
-use Rattle.text_rows.specs.declared.Listed.TheVariants.{Answers, Bodies, Loads}
+use Rattle.text_rows.specs.Tables.{Answers, Bodies, Loads, listing}
 
 -- a table's floats, by the bits that were read
 unfoldable pub floats_of : List ℕ → List Float

@@ -21,5 +21,5 @@ AnswersPortions =
 abbrev pub AnswersEarly : Type 0
 AnswersEarly =
     (input rest : List ℕ) (k : Reader) (line : List ℕ) (w : Cells) (o o' : List ℕ) (number : ℕ)
-    → reading_in k line w ≡ capped_in (going (feeds of_program unread input)) → is_bad k.came ≡ true
+    → reading_in k line w ≡ capped_in (going (feeds of_program unread input)) → is_bad k.bad ≡ true
     → Answered input o o' number → Answered (input ++ rest) o o' number

@@ -2,11 +2,12 @@
 use Prim.Native.Nat.{ℕ, ◌≤◌}
 use native.Mathlib.Omega.{arith}
 use borrow.Author.Tests.{eq-eqb, ne_eqb}
-use mathlib.Core.Bool.{Bool, true, false, ◌&&◌, not}
+use mathlib.Core.Bool.{Bool, true, false}
 use mathlib.Core.List.{List, []}
 use mathlib.Core.Path.{◌≡◌, refl, sym, ◌∙◌, ap}
 use lib.ListN.{length, take}
 use lib.Seq.{length-take-le}
+use Rattle.std.specs.Prelude.{Option, None, Some, Result}
 use Rattle.base_words.specs.Choice.{if◌then◌otherwise◌}
 use Rattle.base_words.proofs.Pick.{never, pass, take as pick}
 use Rattle.base_places.specs.Lengths.{largest, most_in_line}
@@ -14,39 +15,21 @@ use Rattle.text_fields.specs.declared.Counts.{Counts}
 use Rattle.text_line.specs.Night.{Night}
 use Rattle.text_line.specs.Lines.{in_contact, read_line}
 use Rattle.text_line.specs.Filled.{Cells, ReadLine, night_of, room_of}
-use Rattle.text_line.specs.declared.LineRead.{LineRead}
+use Rattle.text_line.specs.declared.BadLine.{BadLine}
+use Rattle.text_line.specs.declared.State.{State}
 use Rattle.text_read.specs.Text.{closed, line_ended, reading, refused, whole_contacts}
 use Rattle.text_read.specs.Portions.{ended, over}
 use Rattle.text_read.specs.Carried.{Ends, capped, capped_in, is_bad, laid, reading_in, said_in, text_by, text_in}
 use Rattle.text_read.specs.Handed.{Closes, Sound, after_line, closed_reader, cut_short, last_line, settled}
-use Rattle.text_read.specs.declared.Came.{Came}
-use Rattle.text_read.specs.declared.Came.TheVariants.{Bad, Fine}
 use Rattle.text_read.specs.declared.Reader.{Reader}
 use Rattle.text_read.proofs.Capping.{closed_last, whole_capped}
 use Rattle.text_read.proofs.Tables.{grown_laid, grown_room, grown_same, same_laid}
 use Rattle.text_read.proofs.Carrying.{after_grown, after_is, fine_of, low, said_in_lem, settled_text, text_fine}
 
--- whether a contact is cut short
-cut_by : (k : Reader) (bad inside : Bool) → bad ≡ is_bad k.came → inside ≡ in_contact k.st.place → (not bad && inside) ≡ cut_short k
-cut_by k true inside p q = rw (← p)
-cut_by k false inside p q = rw (← p, ← q)
-
-module _ (k : Reader) {bad inside : Bool} (p : bad ≡ is_bad k.came) (q : inside ≡ in_contact k.st.place) where
-  pub close_cut : (not bad && inside) ≡ true
-      → record { over = true; came = Bad 3; number = k.number; st = k.st; len = k.len } ≡ closed_reader k
-  close_cut e = rw (← (cut_by k bad inside p q), e)
-
-  pub close_whole : (not bad && inside) ≡ false
-      → record { over = true; came = k.came; number = k.number; st = k.st; len = k.len } ≡ closed_reader k
-  close_whole e = rw (← (cut_by k bad inside p q), e)
-
 -- the line that has not ended
 module _ (k : Reader) (line : List ℕ) (w : Cells) (v : Sound k w) (long : length line ≡ most_in_line) where
   held : length (take k.len line) ≡ k.len
   held = length-take-le k.len line (omega (arith, v.short))
-
-  pub held_long : k.len ≡ length (take k.len line)
-  held_long = sym held
 
   last_none_by : (room : Counts) (l : List ℕ) (n : ℕ) (t : Night) → length l ≡ 0 → last_line room (reading l n t) ≡ reading [] n t
   unfolding last_line
@@ -65,7 +48,7 @@ module _ (k : Reader) (line : List ℕ) (w : Cells) (v : Sound k w) (long : leng
         grown = grown_same v.sane;
       }
 
-  pub last : {x : LineRead} {w' : Cells} → (k.len ≡ 0 → ⊥) → ReadLine k.st (take k.len line) w x w'
+  pub last : {x : Result State BadLine} {w' : Cells} → (k.len ≡ 0 → ⊥) → ReadLine k.st (take k.len line) w x w'
       → {r : Reader} → r ≡ after_line k x → Closes k line w r w'
   last {x} {w'} e d q =
       let some : length (take k.len line) ≡ 0 → ⊥ = λ z. e (sym held ∙ z) in
@@ -77,20 +60,20 @@ module _ (k : Reader) (line : List ℕ) (w : Cells) (v : Sound k w) (long : leng
       })
 
 -- a reader that is closed carries what the end of a text says
-closing_cut : (held : List ℕ) (n : ℕ) (t : Night) (cut : Bool)
-    → text_by (if cut then Bad 3 otherwise Fine) held n t ≡ (if cut then refused n 3 t otherwise reading held n t)
-closing_cut held n t true = refl
-closing_cut held n t false = refl
+closing_cut : (l : List ℕ) (n : ℕ) (t : Night) (cut : Bool)
+    → text_by (if cut then Some 3 otherwise None) l n t ≡ (if cut then refused n 3 t otherwise reading l n t)
+closing_cut l n t true = refl
+closing_cut l n t false = refl
 
-closing_by : (c : Came) (held : List ℕ) (n : ℕ) (t : Night)
-    → text_by (if (if is_bad c then false otherwise in_contact t.place) then Bad 3 otherwise c) held n t ≡ whole_contacts (text_by c held n t)
+closing_by : (c : Option ℕ) (l : List ℕ) (n : ℕ) (t : Night)
+    → text_by (if (if is_bad c then false otherwise in_contact t.place) then Some 3 otherwise c) l n t ≡ whole_contacts (text_by c l n t)
 unfolding whole_contacts
-closing_by Fine held n t = closing_cut held n t (in_contact t.place)
-closing_by (Bad reason) held n t = refl
+closing_by None l n t = closing_cut l n t (in_contact t.place)
+closing_by (Some reason) l n t = refl
 
 closing : (k : Reader) (line : List ℕ) (w : Cells) → text_in (closed_reader k) line w ≡ whole_contacts (text_in k line w)
 unfolding text_in night_of
-closing k line w = closing_by k.came (take k.len line) k.number (night_of k.st w)
+closing k line w = closing_by k.bad (take k.len line) k.number (night_of k.st w)
 
 module _ (k : Reader) (line : List ℕ) (w : Cells) (h : k.number ≤ largest) where
   -- a second end
@@ -103,39 +86,39 @@ module _ (k : Reader) (line : List ℕ) (w : Cells) (h : k.number ≤ largest) w
   }
 
   -- the end after a bad line
-  refused_closed : (room : Counts) (c : Came) (l : List ℕ) (n : ℕ) (t : Night) → is_bad c ≡ true → closed room (text_by c l n t) ≡ text_by c l n t
+  refused_closed : (room : Counts) (c : Option ℕ) (l : List ℕ) (n : ℕ) (t : Night) → is_bad c ≡ true → closed room (text_by c l n t) ≡ text_by c l n t
   unfolding closed
-  refused_closed room Fine l n t e = never (sym e)
-  refused_closed room (Bad reason) l n t e = refl
+  refused_closed room None l n t e = never (sym e)
+  refused_closed room (Some reason) l n t e = refl
 
-  cut_never : is_bad k.came ≡ true → cut_short k ≡ false
+  cut_never : is_bad k.bad ≡ true → cut_short k ≡ false
   cut_never e = rw e
 
-  pub end_bad : k.over ≡ false → {bad : Bool} → bad ≡ is_bad k.came → bad ≡ true → {r : Reader} → r ≡ closed_reader k → Ends k line w r line w
+  pub end_bad : k.over ≡ false → {bad : Bool} → bad ≡ is_bad k.bad → bad ≡ true → {r : Reader} → r ≡ closed_reader k → Ends k line w r line w
   unfolding reading_in ended capped_in text_in
   end_bad o p b {r} q =
-      let e : is_bad k.came ≡ true = sym p ∙ b in
+      let e : is_bad k.bad ≡ true = sym p ∙ b in
       record {
         is =
-            rw (q, o, cut_never e, refused_closed (room_of w) k.came (take k.len line) k.number (night_of k.st w) e)
+            rw (q, o, cut_never e, refused_closed (room_of w) k.bad (take k.len line) k.number (night_of k.st w) e)
             (ap over (sym (low k line w h)));
         tables = rw q (same_laid k.st w ∙ ap (laid w) (sym (said_in_lem (closed_reader k) line w)));
         kept = refl;
       }
 
 -- the end of a text
-module _ (k : Reader) (line : List ℕ) (w : Cells) (long : length line ≡ most_in_line) (o : k.over ≡ false) {bad : Bool} (p : bad ≡ is_bad k.came)
+module _ (k : Reader) (line : List ℕ) (w : Cells) (long : length line ≡ most_in_line) (o : k.over ≡ false) {bad : Bool} (p : bad ≡ is_bad k.bad)
     (fine : bad ≡ false) where
   ended_side : (r : Reader) (w' : Cells) → r.over ≡ true → text_in r line w' ≡ capped (closed (room_of w) (text_in k line w))
       → reading_in r line w' ≡ capped_in (ended (room_of w) (reading_in k line w))
   unfolding reading_in ended capped_in text_in
   ended_side r w' u e = rw (u, o) (ap over e)
 
-  pub end_whole : {t : Reader} → t ≡ settled k w → {u r : Reader} {w' : Cells} → Closes t line w u w' → r ≡ closed_reader u → r.number ≤ largest
+  pub end_whole : {room : Counts} → room ≡ room_of w → {t : Reader} → t ≡ settled k room → {u r : Reader} {w' : Cells} → Closes t line w u w' → r ≡ closed_reader u → r.number ≤ largest
       → Ends k line w r line w'
-  end_whole a {u} {r} {w'} x q h =
-      let c : k.came ≡ Fine = fine_of k.came (sym p ∙ fine) in
-      let d : Closes (settled k w) line w u w' = rw a at x in
+  end_whole m a {u} {r} {w'} x q h =
+      let c : k.bad ≡ None = fine_of k.bad (sym p ∙ fine) in
+      let d : Closes (settled k (room_of w)) line w u w' = rw (a, m) at x in
       let all : capped (text_in r line w') ≡ capped (closed (room_of w) (text_in k line w)) =
       rw (q, closing u line w', whole_capped (text_in u line w'), ← d.is, settled_text k line w c long, closed_last, whole_capped) in
       let left : said_in (reading_in r line w') ≡ night_of u.st w' = rw q (said_in_lem (closed_reader u) line w') in

@@ -5,7 +5,8 @@ use mathlib.Core.Bool.{Bool, true, false, ◌||◌}
 use mathlib.Core.List.{List, [], ◌∷◌, ◌++◌}
 use mathlib.Core.Path.{◌≡◌, refl, sym, ◌∙◌, ap}
 use lib.ListN.{drop, drop_of_length-le, length, length-drop, take, take-append-drop}
-use lib.Seq.{drop-drop, length-take-le, take-length, take-suc}
+use lib.Seq.{drop-drop, length-take-le, take-suc}
+use Rattle.std.specs.Prelude.{Option, None, Some, Result}
 use Rattle.base_words.proofs.Pick.{never}
 use Rattle.base_words.proofs.Said.{none_l, none_r}
 use Rattle.base_places.specs.Lengths.{largest, most_in_line}
@@ -14,13 +15,12 @@ use Rattle.text_fields.specs.declared.Counts.{Counts}
 use Rattle.text_fields.proofs.Runs.{front_free, stops}
 use Rattle.text_line.specs.Night.{Night, blank}
 use Rattle.text_line.specs.Filled.{Appended, Cells, Grown, ReadLine, night_of, room_of}
-use Rattle.text_line.specs.declared.LineRead.{LineRead}
+use Rattle.text_line.specs.declared.BadLine.{BadLine}
+use Rattle.text_line.specs.declared.State.{State}
 use Rattle.text_read.specs.Text.{feeds, reading, refused, unread}
 use Rattle.text_read.specs.Portions.{begun, going, over, taken}
 use Rattle.text_read.specs.Carried.{Begins, Takes, capped, capped_in, fresh, is_bad, laid, reading_in, text_by, text_in}
 use Rattle.text_read.specs.Handed.{Fed, Sound, Turned, after_line, refused_for, settled}
-use Rattle.text_read.specs.declared.Came.{Came}
-use Rattle.text_read.specs.declared.Came.TheVariants.{Bad, Fine}
 use Rattle.text_read.specs.declared.Reader.{Reader}
 use Rattle.text_read.specs.declared.Turn.{Turn}
 use Rattle.text_read.proofs.Feeding.{feeds_append, feeds_none, feeds_refused, line_ends, line_over, run_on, run_over}
@@ -61,8 +61,8 @@ module _ (k : Reader) (line : List ℕ) (w : Cells) (v : Sound k w) (run : List 
 
   module _ (h : length run ≤ most_in_line - k.len) where
     -- it goes on
-    pub on_held : {line' : List ℕ} → Appended line k.len run (length run) line' (k.len + length run)
-        → Fed k line w run (record { over = k.over; came = Fine; number = k.number; st = k.st; len = k.len + length run }) line' w
+    pub on_held : {line' : List ℕ} {len : ℕ} → Appended line k.len run line' len
+        → Fed k line w run (record { over = k.over; bad = k.bad; number = k.number; st = k.st; len = len }) line' w
     unfolding text_in
     on_held a = record {
       is =
@@ -70,15 +70,14 @@ module _ (k : Reader) (line : List ℕ) (w : Cells) (v : Sound k w) (run : List 
             v.fine,
             run_on (room_of w) k.number (night_of k.st w) run (take k.len line) free (omega (arith, held, v.short)),
             a.is,
-            take-length,
           );
-      sound = λ q. record { fine = refl; short = omega (arith, v.short); sane = v.sane };
+      sound = λ q. record { fine = v.fine; short = omega (arith, v.short, a.far); sane = v.sane };
       grown = grown_same v.sane;
       over = refl;
     }
 
     -- it ends
-    ended_by : {r : LineRead} {w' : Cells} (line' : List ℕ) → ReadLine k.st (take k.len line ++ run) w r w'
+    ended_by : {r : Result State BadLine} {w' : Cells} (line' : List ℕ) → ReadLine k.st (take k.len line ++ run) w r w'
         → Fed k line w (run ++ (10 ∷ [])) (after_line k r) line' w'
     ended_by {r} {w'} line' d = record {
       is =
@@ -92,28 +91,23 @@ module _ (k : Reader) (line : List ℕ) (w : Cells) (v : Sound k w) (run : List 
       over = after_over k w w' (take k.len line ++ run) d;
     }
 
-    pub end_from : {x : LineRead} {w' : Cells} → k.len ≡ 0 → ReadLine k.st run w x w' → {r : Reader} → r ≡ after_line k x
+    pub end_from : {x : Result State BadLine} {w' : Cells} → k.len ≡ 0 → ReadLine k.st run w x w' → {r : Reader} → r ≡ after_line k x
         → Fed k line w (run ++ (10 ∷ [])) r line w'
     end_from {x} e d q = rw q (ended_by {r = x} line (rw e d))
 
-    pub end_held : {x : LineRead} {line' : List ℕ} {w' : Cells} → Appended line k.len run (length run) line' (k.len + length run)
-        → ReadLine k.st (take (k.len + length run) line') w x w' → {r : Reader} → r ≡ after_line k x
-        → Fed k line w (run ++ (10 ∷ [])) r line' w'
-    end_held {x} {line'} a d q = rw q (ended_by line' (rw (a.is, take-length) at d))
-
--- the line with the run after it
-pub all_held : {line run line' : List ℕ} {at n r : ℕ} → Appended line at run n line' r → r ≡ length (take r line')
-all_held {line} {run} {line'} {at} {n} {r} a = sym (length-take-le r line' a.grown.fits)
+    pub end_held : {x : Result State BadLine} {line' : List ℕ} {len : ℕ} {w' : Cells} → Appended line k.len run line' len
+        → ReadLine k.st (take len line') w x w' → {r : Reader} → r ≡ after_line k x → Fed k line w (run ++ (10 ∷ [])) r line' w'
+    end_held {x} {line'} a d q = rw q (ended_by line' (rw a.is at d))
 
 -- a refused text stays so
-stays_by : (room : Counts) (c : Came) (l : List ℕ) (n : ℕ) (t : Night) (s : List ℕ) → is_bad c ≡ true
+stays_by : (room : Counts) (c : Option ℕ) (l : List ℕ) (n : ℕ) (t : Night) (s : List ℕ) → is_bad c ≡ true
     → feeds room (text_by c l n t) s ≡ text_by c l n t
-stays_by room Fine l n t s e = never (sym e)
-stays_by room (Bad reason) l n t s e = feeds_refused room n reason t s
+stays_by room None l n t s e = never (sym e)
+stays_by room (Some reason) l n t s e = feeds_refused room n reason t s
 
-refused_stays : (room : Counts) (r : Reader) (line : List ℕ) (w : Cells) (s : List ℕ) → is_bad r.came ≡ true → feeds room (text_in r line w) s ≡ text_in r line w
+refused_stays : (room : Counts) (r : Reader) (line : List ℕ) (w : Cells) (s : List ℕ) → is_bad r.bad ≡ true → feeds room (text_in r line w) s ≡ text_in r line w
 unfolding text_in
-refused_stays room r line w s e = stays_by room r.came (take r.len line) r.number (night_of r.st w) s e
+refused_stays room r line w s e = stays_by room r.bad (take r.len line) r.number (night_of r.st w) s e
 
 -- the line of s from i on
 module _ (s : List ℕ) (i end : ℕ) (at_end : end ≡ i + until 10 (drop i s)) where
@@ -138,9 +132,6 @@ module _ (s : List ℕ) (i end : ℕ) (at_end : end ≡ i + until 10 (drop i s))
 
   -- or goes on to its end
   module _ (p : end ≡ length s) where
-    pub rest_free : Free 10 (take (length s - i) (drop i s))
-    rest_free = rw p at line_free
-
     pub goes : {k : Reader} {line : List ℕ} {w : Cells} {r : Reader} {line' : List ℕ} {w' : Cells} → i < length s
         → Fed k line w (take (length s - i) (drop i s)) r line' w' → Turned k line w s i (record { reader = r; at = end }) line' w'
     goes h d = record { fed = rw p d; on = omega arith; within = omega arith }
@@ -185,9 +176,9 @@ module _ (k : Reader) (line : List ℕ) (w : Cells) (s : List ℕ) where
           f.rest
 
       -- after a bad line the rest changes nothing
-      pub bad_fed : {bad : Bool} → bad ≡ is_bad r.reader.came → bad ≡ true → Fed k line w s r.reader line'' w''
+      pub bad_fed : {bad : Bool} → bad ≡ is_bad r.reader.bad → bad ≡ true → Fed k line w s r.reader line'' w''
       bad_fed p b =
-          let e : is_bad r.reader.came ≡ true = sym p ∙ b in
+          let e : is_bad r.reader.bad ≡ true = sym p ∙ b in
           record {
             is = rw (refused_stays (room_of w) r.reader line'' w'' (drop r.at s) e) at fed_on;
             sound = λ q. never (sym e ∙ q);
@@ -195,7 +186,7 @@ module _ (k : Reader) (line : List ℕ) (w : Cells) (s : List ℕ) where
             over = d.fed.over ∙ f.over;
           }
 
-      pub next_fed : {bad : Bool} → bad ≡ is_bad r.reader.came → bad ≡ false → FedSome r.reader line'' w'' r.at
+      pub next_fed : {bad : Bool} → bad ≡ is_bad r.reader.bad → bad ≡ false → FedSome r.reader line'' w'' r.at
       next_fed p b = record {
         rest = fed_on;
         sound = d.fed.sound (sym p ∙ b);
@@ -205,13 +196,13 @@ module _ (k : Reader) (line : List ℕ) (w : Cells) (s : List ℕ) where
 
 -- a portion was taken
 module _ (k : Reader) (line : List ℕ) (w : Cells) (s : List ℕ) where
-  untaken_by : (o : Bool) → k.over ≡ o → (o || is_bad k.came) ≡ true → k.number ≤ largest
+  untaken_by : (o : Bool) → k.over ≡ o → (o || is_bad k.bad) ≡ true → k.number ≤ largest
       → reading_in k line w ≡ capped_in (taken (room_of w) (reading_in k line w) s)
   unfolding reading_in taken capped_in text_in
   untaken_by true p q h = rw p (ap over (sym (low k line w h)))
   untaken_by false p q h = rw p (ap going (sym (ap capped (refused_stays (room_of w) k line w s q) ∙ low k line w h)))
 
-  pub untaken : {bad : Bool} → bad ≡ is_bad k.came → (k.over || bad) ≡ true → k.number ≤ largest → Takes k line w s k line w
+  pub untaken : {bad : Bool} → bad ≡ is_bad k.bad → (k.over || bad) ≡ true → k.number ≤ largest → Takes k line w s k line w
   untaken p e h = record {
     is = untaken_by k.over refl (rw p at e) h;
     tables = same_laid k.st w ∙ ap (laid w) (sym (said_in_lem k line w));
@@ -224,13 +215,13 @@ module _ (k : Reader) (line : List ℕ) (w : Cells) (s : List ℕ) where
   unfolding reading_in taken capped_in text_in
   taken_by o r line' w' p e = rw (p, o) (ap going e)
 
-  pub took : length line ≡ most_in_line → {bad : Bool} → bad ≡ is_bad k.came → (k.over || bad) ≡ false
-      → {t : Reader} → t ≡ settled k w → {r : Reader} {line' : List ℕ} {w' : Cells} → Fed t line w s r line' w' → r.number ≤ largest
+  pub took : length line ≡ most_in_line → {bad : Bool} → bad ≡ is_bad k.bad → (k.over || bad) ≡ false
+      → {room : Counts} → room ≡ room_of w → {t : Reader} → t ≡ settled k room → {r : Reader} {line' : List ℕ} {w' : Cells} → Fed t line w s r line' w' → r.number ≤ largest
       → Takes k line w s r line' w'
-  took long {bad} p e q {r} {line'} {w'} x h =
+  took long {bad} p e m q {r} {line'} {w'} x h =
       let o = none_l k.over bad e in
-      let c = fine_of k.came (sym p ∙ none_r k.over bad e) in
-      let d : Fed (settled k w) line w s r line' w' = rw q at x in
+      let c = fine_of k.bad (sym p ∙ none_r k.over bad e) in
+      let d : Fed (settled k (room_of w)) line w s r line' w' = rw (q, m) at x in
       let all : text_in r line' w' ≡ capped (feeds (room_of w) (text_in k line w) s) =
       sym (low r line' w' h) ∙ d.is ∙ rw (settled_text k line w c long) in
       record {

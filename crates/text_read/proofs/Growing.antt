@@ -8,9 +8,10 @@ use mathlib.Core.Path.{◌≡◌, refl, ◌∙◌, ap}
 use lib.Dec.{eqb, ltb}
 use lib.ListN.{drop, length, length-append, take}
 use lib.Seq.{drop-drop}
+use Rattle.std.specs.Prelude.{Option, None, Some}
 use Rattle.base_words.specs.Choice.{if◌then◌otherwise◌}
 use Rattle.base_places.specs.Lengths.{most_in_line}
-use Rattle.text_fields.specs.Fields.{Nothing, Says, Values}
+use Rattle.text_fields.specs.Fields.{Says, Values}
 use Rattle.text_fields.specs.Letters.{adds, line_letter, says}
 use Rattle.text_fields.specs.declared.Counts.{Counts}
 use Rattle.text_fields.specs.declared.Letter.{Letter}
@@ -18,8 +19,6 @@ use Rattle.text_fields.specs.declared.Letter.TheVariants.{Other}
 use Rattle.text_line.specs.Night.{Night}
 use Rattle.text_line.specs.Lines.{LineCame, bad, filled, full, good, in_contact, is, next_place, ordered, put, read_letter, read_line}
 use Rattle.text_line.specs.Filled.{Cells}
-use Rattle.text_line.specs.declared.Next.{Next}
-use Rattle.text_line.specs.declared.Next.TheVariants.{OutOfOrder, To}
 use Rattle.text_line.specs.declared.Place.{Place}
 use Rattle.text_read.specs.Text.{Text, closed, feed, feeds, line_ended, reading, refused, whole_contacts}
 use Rattle.text_read.specs.Portions.{Reading, ended, going, over, taken, taken_all}
@@ -67,17 +66,17 @@ filled_by l place t numbers bits true = same t
 filled_by l place t numbers bits false = put_grows l place numbers bits t
 
 module _ (room : Counts) (t : Night) where
-  filled_grows : (l : Letter) (place : Place) (v : Values) → Grows t (after t (filled room l place t v))
+  filled_grows : (l : Letter) (place : Place) (v : Option Values) → Grows t (after t (filled room l place t v))
   unfolding filled
-  filled_grows l place Nothing = same t
-  filled_grows l place (Says numbers bits) = filled_by l place t numbers bits (full room l t)
+  filled_grows l place None = same t
+  filled_grows l place (Some (Says numbers bits)) = filled_by l place t numbers bits (full room l t)
 
-  ordered_grows : (l : Letter) (next : Next) (v : Values) → Grows t (after t (ordered room l next t v))
+  ordered_grows : (l : Letter) (next : Option Place) (v : Option Values) → Grows t (after t (ordered room l next t v))
   unfolding ordered
-  ordered_grows l OutOfOrder v = same t
-  ordered_grows l (To place) v = filled_grows l place v
+  ordered_grows l None v = same t
+  ordered_grows l (Some place) v = filled_grows l place v
 
-  letter_by : (l : Letter) (next : Next) (v : Values) (other : Bool) → Grows t (after t (if other then bad 2 otherwise ordered room l next t v))
+  letter_by : (l : Letter) (next : Option Place) (v : Option Values) (other : Bool) → Grows t (after t (if other then bad 2 otherwise ordered room l next t v))
   letter_by l next v true = same t
   letter_by l next v false = ordered_grows l next v
 

@@ -83,8 +83,8 @@ take_within n t = by (dec_lt n (length t))
     by (yes h) = let e : min n (length t) ≡ n = omega arith in rw e
     by (no h) = let e : min n (length t) ≡ length t = omega arith in rw (e, take-length, take_all n t (omega arith))
 
-pub settled_night : (st : State) (w : Cells) → night_of (settled_in st w) w ≡ night_of st w
-unfolding night_of
+pub settled_night : (st : State) (w : Cells) → night_of (settled_in st (room_of w)) w ≡ night_of st w
+unfolding night_of room_of
 settled_night st w =
     rw (
       take_within st.bodies w.bodies,
@@ -93,5 +93,6 @@ settled_night st w =
       take_within st.steps w.steps,
     )
 
-pub settled_sane : (st : State) (w : Cells) → Sane (settled_in st w) w
+pub settled_sane : (st : State) (w : Cells) → Sane (settled_in st (room_of w)) w
+unfolding room_of
 settled_sane st w = record { bodies_fit = omega arith; numbers_fit = omega arith; floats_fit = omega arith; steps_fit = omega arith }

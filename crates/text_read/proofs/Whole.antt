@@ -7,6 +7,7 @@ use mathlib.Core.Path.{◌≡◌, refl, ◌∙◌, ap}
 use lib.Dec.{eqb}
 use lib.ListN.{length, take}
 use lib.Seq.{take-nil}
+use Rattle.std.specs.Prelude.{Option, None, Some}
 use Rattle.base_words.specs.Choice.{if◌then◌otherwise◌}
 use Rattle.base_places.specs.Lengths.{largest}
 use Rattle.text_fields.specs.declared.Counts.{Counts}
@@ -18,8 +19,6 @@ use Rattle.text_read.specs.Portions.{begun, ended, going, over, taken, whole}
 use Rattle.text_read.specs.Carried.{Begins, Ends, ReadWhole, Takes, capped, capped_in, reading_in, side, text_by, text_in}
 use Rattle.text_read.specs.Handed.{last_line}
 use Rattle.text_read.specs.Calls.{Calls, CameTo}
-use Rattle.text_read.specs.declared.Came.{Came}
-use Rattle.text_read.specs.declared.Came.TheVariants.{Bad, Fine}
 use Rattle.text_read.specs.declared.Reader.{Reader}
 use Rattle.text_read.proofs.Capping.{closed_last, ended_capped, taken_capped}
 use Rattle.text_read.proofs.Feeding.{feeds_append}
@@ -65,13 +64,13 @@ unfolding capped
 capped_empty (reading line n t) = refl
 capped_empty (refused n reason t) = refl
 
-text_by_lem : (c : Came) (held : List ℕ) (n : ℕ) (t : Night) → text_by c [] n t ≡ emptied (text_by c held n t)
-text_by_lem Fine held n t = refl
-text_by_lem (Bad reason) held n t = refl
+text_by_lem : (c : Option ℕ) (held : List ℕ) (n : ℕ) (t : Night) → text_by c [] n t ≡ emptied (text_by c held n t)
+text_by_lem None held n t = refl
+text_by_lem (Some reason) held n t = refl
 
 text_empty : (r : Reader) (line : List ℕ) (w : Cells) → text_in r [] w ≡ emptied (text_in r line w)
 unfolding text_in
-text_empty r line w = rw take-nil (text_by_lem r.came (take r.len line) r.number (night_of r.st w))
+text_empty r line w = rw take-nil (text_by_lem r.bad (take r.len line) r.number (night_of r.st w))
 
 -- what is carried after the end
 over_by : (o : Bool) (x y : Text) → side o x ≡ over y → (o ≡ true) × (x ≡ y)

@@ -1,24 +1,23 @@
 -- What a reader carries, as a text that is being read, for the contracts of this crate and of those above. Assumes nothing.
-use Rattle.std.specs.Prelude.{ℕ, min, Bool, true, false, List, [], ◌++◌, ◌≡◌, drop, length, take}
+use Rattle.std.specs.Prelude.{ℕ, min, Bool, true, false, Option, None, Some, is_some, List, [], ◌++◌, ◌≡◌, drop, length, take}
 use Rattle.base_places.specs.Lengths.{largest}
+use Rattle.text_fields.specs.declared.Counts.{Counts}
 use Rattle.text_line.specs.Night.{Night}
 use Rattle.text_line.specs.Filled.{Cells, cells, night_of, room_of}
 use Rattle.text_line.specs.declared.Place.TheVariants.{Bodies}
 use Rattle.text_line.specs.declared.State.{State}
 use Rattle.text_read.specs.Text.{Text, reading, refused, text_of}
 use Rattle.text_read.specs.Portions.{Reading, begun, ended, going, over, taken}
-use Rattle.text_read.specs.declared.Came.{Came}
-use Rattle.text_read.specs.declared.Came.TheVariants.{Bad, Fine}
 use Rattle.text_read.specs.declared.Reader.{Reader}
 
-abbrev pub text_by : Came → List ℕ → ℕ → Night → Text
-text_by Fine held n t = reading held n t
-text_by (Bad reason) held n t = refused n reason t
+abbrev pub text_by : Option ℕ → List ℕ → ℕ → Night → Text
+text_by None held n t = reading held n t
+text_by (Some reason) held n t = refused n reason t
 
 -- the first `len` bytes of `line` are those of the line that has not ended; the tables are filled as far as the state says, and no further
 -- than they are long: so a reader of any fields carries a text
 unfoldable pub text_in : Reader → List ℕ → Cells → Text
-text_in k line w = text_by k.came (take k.len line) k.number (night_of k.st w)
+text_in k line w = text_by k.bad (take k.len line) k.number (night_of k.st w)
 
 abbrev pub side : Bool → Text → Reading
 side false x = going x
@@ -63,7 +62,7 @@ pub record Went (k : Reader) (line : List ℕ) (w : Cells) (next : Reading → R
 
 -- a reader that has read nothing, whatever stands in its line and its tables: this one
 abbrev pub fresh : Reader
-fresh = record { over = false; came = Fine; number = 1; st = record { place = Bodies; bodies = 0; numbers = 0; floats = 0; steps = 0 }; len = 0 }
+fresh = record { over = false; bad = None; number = 1; st = record { place = Bodies; bodies = 0; numbers = 0; floats = 0; steps = 0 }; len = 0 }
 
 abbrev pub Begins : Reader → Type 0
 Begins k = (line : List ℕ) (w : Cells) → reading_in k line w ≡ begun
@@ -82,16 +81,15 @@ pub record ReadWhole (input : List ℕ) (w : Cells) (r : Reader) (w' : Cells) : 
   pub tables : w' ≡ laid w (said (text_of (room_of w) input))
 
 -- a line was bad
-abbrev pub is_bad : Came → Bool
-is_bad Fine = false
-is_bad (Bad reason) = true
+abbrev pub is_bad : Option ℕ → Bool
+is_bad bad = is_some bad
 
--- a state of any fields as one of these tables: none is filled past its end
-abbrev pub settled_in : State → Cells → State
-settled_in st w = record {
+-- a state of any fields as one of tables that hold so many numbers: none is filled past its end
+abbrev pub settled_in : State → Counts → State
+settled_in st room = record {
   place = st.place;
-  bodies = min st.bodies (length w.bodies);
-  numbers = min st.numbers (length w.numbers);
-  floats = min st.floats (length w.floats);
-  steps = min st.steps (length w.steps);
+  bodies = min st.bodies room.bodies;
+  numbers = min st.numbers room.numbers;
+  floats = min st.floats room.floats;
+  steps = min st.steps room.steps;
 }

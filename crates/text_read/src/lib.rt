@@ -2,33 +2,27 @@
 // the bytes of the line that has not ended.
 #![tactic(auto)]
 
-ghost use Rattle.std.specs.Prelude.{◌≡◌, false, ◌∷◌, [], ◌++◌, ◌+◌, ◌≤◌, ◌<◌, min, length};
+ghost use Rattle.std.specs.Prelude.{◌≡◌, ◌∷◌, [], ◌++◌, ◌≤◌, ◌<◌, length};
 ghost use Rattle.text_fields.specs.Fields.{Free};
 ghost use Rattle.base_places.specs.Lengths.{most_in_line};
-ghost use Rattle.text_line.specs.Filled.{Appended, cells};
-ghost use Rattle.text_read.specs.Carried.{Ends, ReadWhole, Takes, fresh, is_bad, settled_in};
-ghost use Rattle.text_read.specs.Handed.{Closes, Fed, Sound, Turned, after_line, closed_reader, refused_for, settled};
+ghost use Rattle.text_line.specs.Filled.{SameTables, lent_cells, reason_number};
+ghost use Rattle.text_read.specs.Carried.{Ends, ReadWhole, Takes, fresh, settled_in};
+ghost use Rattle.text_read.specs.Handed.{Closes, Fed, GoesOn, Sound, Turned, after_line, closed_reader, refused_for, settled};
 
 use base_places::{MOST_IN_LINE, one_more};
-use text_fields::run_end;
-use text_line::{LineRead, Place, State, in_contact, read_line};
+use text_fields::{Counts, run_end};
+use text_line::{BadLine, Place, State, Tables, append, in_contact, read_line};
 
 // What ends a line.
 const LINE_END: u8 = 10;
 
-// Whether a line was bad, and why.
-#[derive(Clone, Copy)]
-pub enum Came {
-    Fine,
-    Bad(u8),
-}
-
-// Whether the end was announced; whether a line was bad; the number of the line that has not ended, or of the bad one; the place in
-// the order of lines and how far the tables are filled; how many bytes there are of the line that has not ended.
+// Whether the end was announced; why a line was bad, if one was (any byte, since a host's words hold any: document 01's reasons are
+// `text_line::BadLine`); the number of the line that has not ended, or of the bad one; the place in the order of lines and how far the
+// tables are filled; how many bytes there are of the line that has not ended.
 #[derive(Clone, Copy)]
 pub struct Reader {
     pub over: bool,
-    pub came: Came,
+    pub bad: Option<u8>,
     pub number: usize,
     pub st: State,
     pub len: usize,
@@ -41,209 +35,113 @@ struct Turn {
     at: usize,
 }
 
-// Whether a line was bad.
-pub fn is_bad(c: Came) -> bool
-    ensures { result ≡ is_bad c }
+// A state of any fields as one of tables that hold so many numbers: none is filled past its end.
+pub fn within(st: State, room: Counts) -> State
+    ensures { result ≡ settled_in st room }
 {
-    match c {
-        Came::Fine => false,
-        Came::Bad(_) => true,
-    }
-}
-
-fn at_most(n: usize, most: usize) -> usize
-    ensures { result ≡ min n most }
-{
-    if n < most { n } else { most }
-}
-
-// A state of any fields as one of these tables: none is filled past its end.
-pub fn within(st: State, bodies: &[u32], numbers: &[u16], floats: &[u32], steps: &[u16]) -> State
-    ensures { result ≡ settled_in st (cells bodies.now numbers.now floats.now steps.now) }
-{
-    let place = st.place;
     State {
-        place,
-        bodies: at_most(st.bodies, bodies.len()),
-        numbers: at_most(st.numbers, numbers.len()),
-        floats: at_most(st.floats, floats.len()),
-        steps: at_most(st.steps, steps.len()),
+        place: st.place,
+        bodies: st.bodies.min(room.bodies),
+        numbers: st.numbers.min(room.numbers),
+        floats: st.floats.min(room.floats),
+        steps: st.steps.min(room.steps),
     }
 }
 
 // A reader whose text is not refused, and of any other fields, as one that can be fed.
-fn settle(k: Reader, bodies: &[u32], numbers: &[u16], floats: &[u32], steps: &[u16]) -> Reader
-    ensures { result ≡ settled k (cells bodies.now numbers.now floats.now steps.now) }
+fn settle(k: Reader, room: Counts) -> Reader
+    ensures { result ≡ settled k room }
 {
-    let st = k.st;
-    let within = within(st, bodies, numbers, floats, steps);
     Reader {
         over: false,
-        came: Came::Fine,
+        bad: None,
         number: k.number,
-        st: within,
-        len: at_most(k.len, MOST_IN_LINE),
+        st: within(k.st, room),
+        len: k.len.min(MOST_IN_LINE),
     }
 }
 
-fn refuse(k: Reader, reason: u8) -> Reader
-    ensures { result ≡ refused_for k reason }
+fn refuse(k: Reader, reason: BadLine) -> Reader
+    ensures { result ≡ refused_for k (reason_number reason) }
 {
-    let st = k.st;
     Reader {
-        over: k.over,
-        came: Came::Bad(reason),
-        number: k.number,
-        st,
-        len: k.len,
+        bad: Some(u8::from(reason)),
+        ..k
     }
 }
 
-fn after_line(k: Reader, read: LineRead) -> Reader
+fn after_line(k: Reader, read: Result<State, BadLine>) -> Reader
     ensures { result ≡ after_line k read }
 {
     match read {
-        LineRead::Good(st) => Reader {
+        Ok(st) => Reader {
             over: k.over,
-            came: Came::Fine,
+            bad: None,
             number: one_more(k.number),
             st,
             len: 0,
         },
-        LineRead::Bad(reason) => refuse(k, reason),
+        Err(reason) => refuse(k, reason),
     }
 }
 
-// A run's bytes, held after the first `at` of a line.
-fn hold(line: &mut [u8], at: usize, run: &[u8])
-    requires { at + length run.now ≤ length line.old }
-    ensures { Appended line.old at run.now (length run.now) line.new (at + length run.now) }
+// The line goes on with a run of bytes, and does not end: no table is looked at, so what is said holds of any.
+fn go_on(k: Reader, run: &[u8], line: &mut [u8]) -> Reader
+    requires { (k.len ≤ most_in_line) × Free 10 run.now × (length line.old ≡ most_in_line) }
+    ensures { GoesOn k line.old run.now result line.new }
 {
-    let mut i = 0;
-    while i < run.len() {
-        line[at + i] = run[i];
-        i += 1;
+    if MOST_IN_LINE - k.len < run.len() {
+        return refuse(k, BadLine::TooLong);
     }
-}
-
-// The line goes on with a run of bytes, and does not end.
-fn go_on(
-    k: Reader,
-    run: &[u8],
-    line: &mut [u8],
-    bodies: &[u32],
-    numbers: &[u16],
-    floats: &[u32],
-    steps: &[u16],
-) -> Reader
-    requires { Sound k (cells bodies.now numbers.now floats.now steps.now) × Free 10 run.now × (length line.old ≡ most_in_line) }
-    ensures { Fed k line.old (cells bodies.now numbers.now floats.now steps.now)
-        run.now result line.new
-        (cells bodies.now numbers.now floats.now steps.now) }
-{
-    let len = k.len;
-    if MOST_IN_LINE - len < run.len() {
-        return refuse(k, 1);
-    }
-    hold(line, len, run);
-    let st = k.st;
-    Reader {
-        over: k.over,
-        came: Came::Fine,
-        number: k.number,
-        st,
-        len: len + run.len(),
-    }
+    let len = append(line, k.len, run);
+    Reader { len, ..k }
 }
 
 // The line goes on with a run of bytes, and ends.
-fn end_line(
-    k: Reader,
-    run: &[u8],
-    line: &mut [u8],
-    bodies: &mut [u32],
-    numbers: &mut [u16],
-    floats: &mut [u32],
-    steps: &mut [u16],
-) -> Reader
-    requires { Sound k (cells bodies.old numbers.old floats.old steps.old) × Free 10 run.now × (length line.old ≡ most_in_line) }
-    ensures { Fed k line.old (cells bodies.old numbers.old floats.old steps.old)
-        (run.now ++ (10 ∷ [])) result line.new
-        (cells bodies.new numbers.new floats.new steps.new) }
+fn end_line(k: Reader, run: &[u8], line: &mut [u8], tables: &mut Tables<'_>) -> Reader
+    requires { Sound k (lent_cells tables.old) × Free 10 run.now × (length line.old ≡ most_in_line) }
+    ensures same { SameTables tables.old tables.new }
+    ensures fed { Fed k line.old (lent_cells tables.old) (run.now ++ (10 ∷ [])) result line.new (lent_cells tables.new) }
 {
-    let len = k.len;
-    let st = k.st;
-    if MOST_IN_LINE - len < run.len() {
-        return refuse(k, 1);
+    if MOST_IN_LINE - k.len < run.len() {
+        return refuse(k, BadLine::TooLong);
     }
-    if len == 0 {
-        let read = read_line(st, run, bodies, numbers, floats, steps);
-        return after_line(k, read);
+    if k.len == 0 {
+        return after_line(k, read_line(k.st, run, tables));
     }
-    hold(&mut *line, len, run);
-    let all = len + run.len();
-    let read = read_line(st, &line[..all], bodies, numbers, floats, steps);
-    after_line(k, read)
+    let all = append(&mut *line, k.len, run);
+    after_line(k, read_line(k.st, &line[..all], tables))
 }
 
 // The line of a portion from byte i on, which ends or goes on with all of the portion's bytes.
-fn feed_line(
-    k: Reader,
-    s: &[u8],
-    i: usize,
-    line: &mut [u8],
-    bodies: &mut [u32],
-    numbers: &mut [u16],
-    floats: &mut [u32],
-    steps: &mut [u16],
-) -> Turn
-    requires { Sound k (cells bodies.old numbers.old floats.old steps.old) × (i < length s.now) × (length line.old ≡ most_in_line) }
-    ensures { Turned k line.old (cells bodies.old numbers.old floats.old steps.old)
-        s.now i result line.new
-        (cells bodies.new numbers.new floats.new steps.new) }
+fn feed_line(k: Reader, s: &[u8], i: usize, line: &mut [u8], tables: &mut Tables<'_>) -> Turn
+    requires { Sound k (lent_cells tables.old) × (i < length s.now) × (length line.old ≡ most_in_line) }
+    ensures same { SameTables tables.old tables.new }
+    ensures turned { Turned k line.old (lent_cells tables.old) s.now i result line.new (lent_cells tables.new) }
 {
     let end = run_end(s, i, LINE_END);
     if end == s.len() {
-        let reader = go_on(k, &s[i..], line, bodies, numbers, floats, steps);
+        let reader = go_on(k, &s[i..], line);
         return Turn { reader, at: end };
     }
     let next = end + 1;
-    let reader = end_line(k, &s[i..end], line, bodies, numbers, floats, steps);
+    let reader = end_line(k, &s[i..end], line, tables);
     Turn { reader, at: next }
 }
 
-// A portion, line by line.
-fn feed(
-    k: Reader,
-    s: &[u8],
-    line: &mut [u8],
-    bodies: &mut [u32],
-    numbers: &mut [u16],
-    floats: &mut [u32],
-    steps: &mut [u16],
-) -> Reader
-    requires { Sound k (cells bodies.old numbers.old floats.old steps.old) × (length line.old ≡ most_in_line) }
-    ensures { Fed k line.old (cells bodies.old numbers.old floats.old steps.old)
-        s.now result line.new
-        (cells bodies.new numbers.new floats.new steps.new) }
+// A portion, line by line. An index and no `for`: how far a turn comes, the turn tells, and the last line may end in a later portion.
+fn feed(k: Reader, s: &[u8], line: &mut [u8], tables: &mut Tables<'_>) -> Reader
+    requires { Sound k (lent_cells tables.old) × (length line.old ≡ most_in_line) }
+    ensures same { SameTables tables.old tables.new }
+    ensures fed { Fed k line.old (lent_cells tables.old) s.now result line.new (lent_cells tables.new) }
 {
     let mut t = k;
     let mut i = 0;
     while i < s.len() {
-        let turn = feed_line(
-            t,
-            s,
-            i,
-            &mut *line,
-            &mut *bodies,
-            &mut *numbers,
-            &mut *floats,
-            &mut *steps,
-        );
+        let turn = feed_line(t, s, i, &mut *line, &mut *tables);
         t = turn.reader;
         i = turn.at;
-        let came = t.came;
-        if is_bad(came) {
+        if t.bad.is_some() {
             return t;
         }
     }
@@ -256,7 +154,7 @@ pub fn begin() -> Reader
 {
     Reader {
         over: false,
-        came: Came::Fine,
+        bad: None,
         number: 1,
         st: State {
             place: Place::Bodies,
@@ -274,107 +172,63 @@ pub fn portion(
     k: Reader,
     s: &[u8],
     line: &mut [u8; MOST_IN_LINE],
-    bodies: &mut [u32],
-    numbers: &mut [u16],
-    floats: &mut [u32],
-    steps: &mut [u16],
+    tables: &mut Tables<'_>,
 ) -> Reader
-    ensures { Takes k line.old (cells bodies.old numbers.old floats.old steps.old)
-        s.now result line.new
-        (cells bodies.new numbers.new floats.new steps.new) }
+    ensures same { SameTables tables.old tables.new }
+    ensures takes { Takes k line.old (lent_cells tables.old) s.now result line.new (lent_cells tables.new) }
 {
-    let over = k.over;
-    let came = k.came;
-    if over | is_bad(came) {
+    if k.over | k.bad.is_some() {
         return k;
     }
-    let t = settle(k, bodies, numbers, floats, steps);
-    feed(t, s, line, bodies, numbers, floats, steps)
+    let t = settle(k, tables.room());
+    feed(t, s, line, tables)
 }
 
 // After the last line: a contact may be cut short.
 fn close(k: Reader) -> Reader
     ensures { result ≡ closed_reader k }
 {
-    let st = k.st;
-    let place = st.place;
-    let came = k.came;
-    let cut = !is_bad(came) & in_contact(place);
-    Reader {
-        over: true,
-        came: if cut { Came::Bad(3) } else { came },
-        number: k.number,
-        st,
-        len: k.len,
+    let t = Reader { over: true, ..k };
+    if k.bad.is_none() & in_contact(k.st.place) {
+        refuse(t, BadLine::OutOfOrder)
+    } else {
+        t
     }
 }
 
 // The line that has not ended, by the end of the text.
-fn last_line(
-    k: Reader,
-    line: &[u8],
-    bodies: &mut [u32],
-    numbers: &mut [u16],
-    floats: &mut [u32],
-    steps: &mut [u16],
-) -> Reader
-    requires { Sound k (cells bodies.old numbers.old floats.old steps.old) × (length line.now ≡ most_in_line) }
-    ensures { Closes k line.now (cells bodies.old numbers.old floats.old steps.old) result
-        (cells bodies.new numbers.new floats.new steps.new) }
+fn last_line(k: Reader, line: &[u8], tables: &mut Tables<'_>) -> Reader
+    requires { Sound k (lent_cells tables.old) × (length line.now ≡ most_in_line) }
+    ensures same { SameTables tables.old tables.new }
+    ensures closes { Closes k line.now (lent_cells tables.old) result (lent_cells tables.new) }
 {
-    let len = k.len;
-    if len == 0 {
+    if k.len == 0 {
         return k;
     }
-    let st = k.st;
-    let read = read_line(st, &line[..len], bodies, numbers, floats, steps);
-    after_line(k, read)
+    after_line(k, read_line(k.st, &line[..k.len], tables))
 }
 
 // The announced end. A second one changes nothing.
-pub fn end(
-    k: Reader,
-    line: &[u8; MOST_IN_LINE],
-    bodies: &mut [u32],
-    numbers: &mut [u16],
-    floats: &mut [u32],
-    steps: &mut [u16],
-) -> Reader
-    ensures { Ends k line.now (cells bodies.old numbers.old floats.old steps.old) result
-        line.now (cells bodies.new numbers.new floats.new steps.new) }
+pub fn end(k: Reader, line: &[u8; MOST_IN_LINE], tables: &mut Tables<'_>) -> Reader
+    ensures same { SameTables tables.old tables.new }
+    ensures ends { Ends k line.now (lent_cells tables.old) result line.now (lent_cells tables.new) }
 {
-    let over = k.over;
-    if over {
+    if k.over {
         return k;
     }
-    let came = k.came;
-    if is_bad(came) {
+    if k.bad.is_some() {
         return close(k);
     }
-    let t = settle(k, bodies, numbers, floats, steps);
-    close(last_line(t, line, bodies, numbers, floats, steps))
+    let t = settle(k, tables.room());
+    close(last_line(t, line, tables))
 }
 
 // A whole text, read into the tables from their front: one portion, and the end.
-pub fn read_text(
-    input: &[u8],
-    bodies: &mut [u32],
-    numbers: &mut [u16],
-    floats: &mut [u32],
-    steps: &mut [u16],
-) -> Reader
-    ensures { ReadWhole input.now (cells bodies.old numbers.old floats.old steps.old) result
-        (cells bodies.new numbers.new floats.new steps.new) }
+pub fn read_text(input: &[u8], tables: &mut Tables<'_>) -> Reader
+    ensures same { SameTables tables.old tables.new }
+    ensures whole { ReadWhole input.now (lent_cells tables.old) result (lent_cells tables.new) }
 {
     let mut line = [0; MOST_IN_LINE];
-    let k = portion(
-        begin(),
-        input,
-        &mut line,
-        &mut *bodies,
-        &mut *numbers,
-        &mut *floats,
-        &mut *steps,
-    );
-    end(k, &line, bodies, numbers, floats, steps)
+    let k = portion(begin(), input, &mut line, &mut *tables);
+    end(k, &line, tables)
 }

@@ -12,8 +12,7 @@ use Rattle.base_places.specs.Lengths.{line_bytes}
 use Rattle.base_rows.specs.Rows.{part, row, rows}
 use Rattle.base_rows.proofs.Parts.{part_at}
 use Rattle.text_write.proofs.Lengths.{Small, each_length, short_line, two_small}
-use Rattle.text_rows.specs.Tables.{a_line, b_line, i_line, listing, point_line, points_of}
-use Rattle.text_rows.specs.declared.Listed.TheVariants.{Answers, Bodies, Loads}
+use Rattle.text_rows.specs.Tables.{Answers, Bodies, Loads, a_line, b_line, i_line, listing, point_line, points_of}
 
 -- what a part has stands in the whole
 pub part_small : (a n : ℕ) (l : List ℕ) → Small l → Small (part a n l)

@@ -1,3 +1,3 @@
 pub mod Tables
-pub mod ByTable
+pub mod Rowwise
 pub mod Lengths

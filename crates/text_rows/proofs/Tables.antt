@@ -5,49 +5,42 @@ use mathlib.Core.Path.{◌≡◌}
 use mathlib.Core.List.{List, [], ◌∷◌}
 use borrow.Author.Tests.{le-ltb, lt-ltb, ne_eqb}
 use lib.ListN.{drop, get_or, length, length-drop, length-take, get_or-eq_default, take}
-use Rattle.base_places.specs.Places.{answer_width, body_width, floats_width, numbers_width, place, point_place}
+use Rattle.base_places.specs.Places.{floats_width, numbers_width, place, point_place}
 use Rattle.base_places.specs.declared.Cell.TheVariants.{NormalImpulse, TangentImpulse}
-use Rattle.text_digits.specs.Wrote.{Wrote}
-use Rattle.text_digits.proofs.Then.{nothing}
+use Rattle.text_digits.specs.declared.Page.{Page}
+use Rattle.text_digits.specs.Wrote.{Writes}
+use Rattle.text_digits.proofs.Then.{idle}
 use Rattle.base_rows.specs.Rows.{part, row, rows}
 use Rattle.base_rows.proofs.Lent.{between}
 use Rattle.text_write.specs.Lines.{line}
-use Rattle.text_rows.specs.Tables.{a_line, b_line, i_line, point_line, points_of}
+use Rattle.text_rows.specs.Tables.{i_line, point_line, points_of}
 
 -- row k of n numbers, as it is lent
 abbrev lent : ℕ → ℕ → List ℕ → List ℕ
 lent n k l = take (k * n + n - k * n) (drop (k * n) l)
 
-module _ {o o' : List ℕ} {at r : ℕ} where
-  pub a_written : (told : List ℕ) (i : ℕ) → Wrote o at (line 65 (lent answer_width i told) []) o' r → Wrote o at (a_line told i) o' r
-  unfolding a_line
-  a_written told i v = rw (between (i * answer_width) answer_width told) at v
-
-  pub b_written : (bodies : List ℕ) (i : ℕ) → Wrote o at (line 66 [] (lent body_width i bodies)) o' r → Wrote o at (b_line bodies i) o' r
-  unfolding b_line
-  b_written bodies i v = rw (between (i * body_width) body_width bodies) at v
-
-  pub i_written : (floats : List ℕ) (k p : ℕ)
-      → Wrote o at
-      (line 73 (k ∷ p ∷ [])
-      (get_or (lent floats_width k floats) (point_place p + place NormalImpulse) 0
-      ∷ get_or (lent floats_width k floats) (point_place p + place TangentImpulse) 0
+module _ {p q : Page} where
+  pub i_written : (floats : List ℕ) (k point : ℕ)
+      → Writes p
+      (line 73 (k ∷ point ∷ [])
+      (get_or (lent floats_width k floats) (point_place point + place NormalImpulse) 0
+      ∷ get_or (lent floats_width k floats) (point_place point + place TangentImpulse) 0
       ∷ []))
-      o' r
-      → Wrote o at (i_line floats k p) o' r
+      q
+      → Writes p (i_line floats k point) q
   unfolding i_line
-  i_written floats k p v = rw (between (k * floats_width) floats_width floats) at v
+  i_written floats k point v = rw (between (k * floats_width) floats_width floats) at v
 
   -- a point below count has a line, any other has none
   pub point_written : (numbers floats : List ℕ) (j : ℕ) {n : ℕ} → n ≡ points_of numbers (j / 2) → j % 2 < n
-      → Wrote o at (i_line floats (j / 2) (j % 2)) o' r → Wrote o at (point_line numbers floats j) o' r
+      → Writes p (i_line floats (j / 2) (j % 2)) q → Writes p (point_line numbers floats j) q
   unfolding point_line
   point_written numbers floats j e h v = rw (lt-ltb (j % 2) (points_of numbers (j / 2)) (rw e at h)) v
 
-pub no_point : (numbers floats : List ℕ) (j : ℕ) {o : List ℕ} {at n : ℕ} → n ≡ points_of numbers (j / 2) → n ≤ j % 2 → at ≤ length o
-    → Wrote o at (point_line numbers floats j) o at
+pub no_point : (numbers floats : List ℕ) (j : ℕ) {p : Page} {n : ℕ} → n ≡ points_of numbers (j / 2) → n ≤ j % 2 → p.at ≤ length p.out.now
+    → Writes p (point_line numbers floats j) p
 unfolding point_line
-no_point numbers floats j {o} {at} e h fits = rw (le-ltb (j % 2) (points_of numbers (j / 2)) (rw e at h)) (nothing o at fits)
+no_point numbers floats j {p} e h fits = rw (le-ltb (j % 2) (points_of numbers (j / 2)) (rw e at h)) (idle p fits)
 
 module _ (numbers : List ℕ) (k : ℕ) where
   pub one_point : get_or (lent numbers_width k numbers) 2 0 ≡ 1 → 1 ≡ points_of numbers k

@@ -7,8 +7,6 @@ use Rattle.base_places.specs.Places.{answer_width, body_width, floats_width, num
 use Rattle.base_places.specs.declared.Cell.{Cell}
 use Rattle.base_places.specs.declared.Cell.TheVariants.{NormalImpulse, TangentImpulse}
 use Rattle.base_rows.specs.Rows.{row, rows}
-use Rattle.text_rows.specs.declared.Listed.{Listed}
-use Rattle.text_rows.specs.declared.Listed.TheVariants.{Answers, Bodies, Loads}
 use Rattle.text_write.specs.Lines.{each, line}
 
 -- A: row i of the room for answers, its number and its branch
@@ -35,7 +33,14 @@ points_of numbers k = let count = get_or (row numbers_width k numbers) 2 0 in if
 unfoldable pub point_line : List ℕ → List ℕ → ℕ → List ℕ
 point_line numbers floats j = if ltb (j % 2) (points_of numbers (j / 2)) then i_line floats (j / 2) (j % 2) otherwise []
 
--- what is listed, from numbers and bits: answers, bodies, or points. How many rows there are, and the line of row i, if it has one
+-- what is listed, from a table of numbers and one of bits: answers, which are numbers, bodies, which are bits, or the loads of points, from
+-- their contacts' two tables
+pub data Listed : Type 0 where
+  Answers : Listed
+  Bodies : Listed
+  Loads : Listed
+
+-- from numbers and bits: how many rows there are, and the line of row i, if it has one
 abbrev pub rows_of : Listed → List ℕ → List ℕ → ℕ
 rows_of Answers told bits = rows answer_width told
 rows_of Bodies numbers bodies = rows body_width bodies

@@ -4,8 +4,6 @@ use mathlib.Core.List.{List}
 use mathlib.Core.Path.{◌≡◌, refl, ◌∙◌, ap}
 use lib.Ieee.{Float}
 use lib.ListN.{length, length-map}
-use Rattle.step_rules.specs.declared.Outcome.{Outcome}
-use Rattle.step_rules.specs.declared.Outcome.TheVariants.{Refused, Done}
 use Rattle.list_tables.specs.declared.Step.{Step}
 use Rattle.list_cells.proofs.Written as written
 use Rattle.list_rules.specs.Sweep.{Tables, new_floats, outcome, step_on}
@@ -16,6 +14,7 @@ use Rattle.call_rules.proofs.Kept.{call_keeps}
 use Rattle.text_digits.specs.Bits.{value_of}
 use Rattle.text_line.specs.Night.{Night}
 use Rattle.text_output.specs.Answer.{called, floats_of, lent}
+use Rattle.step_rules.specs.Step.{Done, Outcome, Refused}
 
 -- so does one step, done or refused
 new_as_long : (s : Step) (o : Outcome) (floats : List Float) → length (new_floats s o floats) ≡ length floats

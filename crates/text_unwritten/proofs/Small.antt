@@ -6,9 +6,8 @@ use mathlib.Core.Path.{◌≡◌, refl}
 use lib.Dec.{eqb, ltb}
 use lib.ListN.{length, take}
 use Rattle.base_places.specs.Lengths.{most_in_line}
-use Rattle.text_digits.specs.declared.Number.{Number}
-use Rattle.text_digits.specs.declared.Number.TheVariants.{Is, No}
-use Rattle.text_fields.specs.Fields.{None, Nothing, Says, Taken, These, Values, ended, fields, in_form, onward, takes, then_bits, values}
+use Rattle.std.specs.Prelude.{Option, Some, None, option_and_then}
+use Rattle.text_fields.specs.Fields.{Says, Taken, These, Values, ended, fields, in_form, takes, then_bits, values}
 use Rattle.text_fields.specs.Got.{Small, most}
 use Rattle.text_fields.specs.Letters.{adds, after_letter, asked, line_letter, says}
 use Rattle.text_fields.specs.declared.Form.TheVariants.{Decimal, Hex}
@@ -17,21 +16,18 @@ use Rattle.text_fields.specs.declared.Letter.TheVariants.{Other}
 use Rattle.text_fields.proofs.Small.{both_small, in_form_small, take_small}
 use Rattle.text_line.specs.Night.{Night, blank, of_program}
 use Rattle.text_line.specs.Lines.{LineCame, bad, filled, full, good, in_contact, is, next_place, ordered, put, read_letter, read_line}
-use Rattle.text_line.specs.declared.Next.{Next}
-use Rattle.text_line.specs.declared.Next.TheVariants.{To, OutOfOrder}
 use Rattle.text_line.specs.declared.Place.{Place}
 use Rattle.text_read.specs.Text.{Text, closed, feed, feeds, line_ended, reading, refused, text_of, unread, whole_contacts}
 
 -- the bits that fields say
-abbrev SmallTaken : Taken → Type 0
-SmallTaken (These l fs) = Small (most Hex) l
+abbrev SmallTaken : Option Taken → Type 0
+SmallTaken (Some (These l fs)) = Small (most Hex) l
 SmallTaken None = Unit
 
-one_small : (f : List ℕ) (x : Number) → in_form Hex f ≡ x → (go_on : ℕ → Taken) → ((n : ℕ) → n ≤ most Hex → SmallTaken (go_on n))
-    → SmallTaken (onward x go_on)
-unfolding onward
-one_small f (Is n) e go_on later = later n (in_form_small Hex f n e)
-one_small f No e go_on later = tt
+one_small : (f : List ℕ) (x : Option ℕ) → in_form Hex f ≡ x → (go_on : ℕ → Option Taken) → ((n : ℕ) → n ≤ most Hex → SmallTaken (go_on n))
+    → SmallTaken (option_and_then go_on x)
+one_small f (Some n) e go_on later = later n (in_form_small Hex f n e)
+one_small f None e go_on later = tt
 
 takes_small : (k : ℕ) (l : List ℕ) (fs : List (List ℕ)) → Small (most Hex) l → SmallTaken (takes Hex l k fs)
 unfolding takes
@@ -42,19 +38,19 @@ takes_small (suc k) l (f ∷ fs) h =
     (λ n i. takes_small k (l ++ (n ∷ [])) fs (both_small (most Hex) l (n ∷ []) h (i, tt)))
 
 -- the bits that a line says
-abbrev SmallValues : Values → Type 0
-SmallValues (Says numbers bits) = Small (most Hex) bits
-SmallValues Nothing = Unit
+abbrev SmallValues : Option Values → Type 0
+SmallValues (Some (Says numbers bits)) = Small (most Hex) bits
+SmallValues None = Unit
 
-ended_small : (numbers : List ℕ) (x : Taken) → SmallTaken x → SmallValues (ended numbers x)
+ended_small : (numbers : List ℕ) (x : Option Taken) → SmallTaken x → SmallValues (ended numbers x)
 unfolding ended
-ended_small numbers (These bits []) h = h
-ended_small numbers (These bits (f ∷ fs)) h = tt
+ended_small numbers (Some (These bits [])) h = h
+ended_small numbers (Some (These bits (f ∷ fs))) h = tt
 ended_small numbers None h = tt
 
-then_small : (k : ℕ) (x : Taken) → SmallValues (then_bits k x)
+then_small : (k : ℕ) (x : Option Taken) → SmallValues (then_bits k x)
 unfolding then_bits
-then_small k (These numbers fs) = ended_small numbers (takes Hex [] k fs) (takes_small k [] fs tt)
+then_small k (Some (These numbers fs)) = ended_small numbers (takes Hex [] k fs) (takes_small k [] fs tt)
 then_small k None = tt
 
 says_small : (l : Letter) (line : List ℕ) → SmallValues (says l line)
@@ -76,22 +72,22 @@ or_bad true reason x h = tt
 or_bad false reason x h = h
 
 module _ (t : Night) (before : SmallBits t) where
-  filled_small : (l : Letter) (place : Place) (v : Values) → SmallValues v → SmallCame (filled of_program l place t v)
+  filled_small : (l : Letter) (place : Place) (v : Option Values) → SmallValues v → SmallCame (filled of_program l place t v)
   unfolding filled put
-  filled_small l place (Says numbers bits) h =
+  filled_small l place (Some (Says numbers bits)) h =
       or_bad (full of_program l t) 5 (good (put l place numbers bits t))
       (record {
         bodies = both_small (most Hex) t.bodies (take (adds l).bodies bits) before.bodies (take_small (most Hex) (adds l).bodies bits h);
         floats = both_small (most Hex) t.floats (take (adds l).floats bits) before.floats (take_small (most Hex) (adds l).floats bits h);
       })
-  filled_small l place Nothing h = tt
+  filled_small l place None h = tt
 
-  ordered_small : (l : Letter) (next : Next) (v : Values) → SmallValues v → SmallCame (ordered of_program l next t v)
+  ordered_small : (l : Letter) (next : Option Place) (v : Option Values) → SmallValues v → SmallCame (ordered of_program l next t v)
   unfolding ordered
-  ordered_small l (To place) v h = filled_small l place v h
-  ordered_small l OutOfOrder v h = tt
+  ordered_small l (Some place) v h = filled_small l place v h
+  ordered_small l None v h = tt
 
-  letter_small : (l : Letter) (v : Values) → SmallValues v → SmallCame (read_letter of_program t l v)
+  letter_small : (l : Letter) (v : Option Values) → SmallValues v → SmallCame (read_letter of_program t l v)
   unfolding read_letter
   letter_small l v h =
       or_bad (is l Other) 2 (ordered of_program l (next_place l t.place) t v) (ordered_small l (next_place l t.place) v h)

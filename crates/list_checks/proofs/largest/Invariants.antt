@@ -1,11 +1,7 @@
 -- `list_checks::largest` meets its contract. Both are the largest of the first i steps. Assumes nothing.
-use Prim.Native.Nat.{◌-◌, ◌≤◌}
 use mathlib.Core.Path.{◌≡◌}
 use Rattle.list_checks.specs.LargestOf.{largest_of}
 use Rattle.list_checks.proofs.largest.Given as goal
 
 abbrev pub invariant-loop-i : goal.invariant-loop-i
-invariant-loop-i l = (l.i ≤ l.n) × (l.contact ≡ largest_of (λ s. s.contact) l.steps l.i) × (l.kind ≡ largest_of (λ s. s.kind) l.steps l.i)
-
-abbrev pub decreases-loop-i : goal.decreases-loop-i
-decreases-loop-i l = l.n - l.i
+invariant-loop-i l = (l.contact ≡ largest_of (λ s. s.contact) l.steps l.i) × (l.kind ≡ largest_of (λ s. s.kind) l.steps l.i)

@@ -1,11 +1,7 @@
--- `plain_step::as_written` meets its contract. By the outcome's case. Assumes nothing.
+-- `plain_step::as_written` meets its contract. By what writing the velocities ensures. Assumes nothing.
 use Rattle.step_rules.specs.Step.{as_written}
 use Rattle.plain_step.proofs.as_written.Goals as goal
 
-pub returns-in-Refused : goal.returns-in-Refused
+pub returns : goal.returns
 unfolding as_written
-returns-in-Refused c = rw c.in-Refused.is
-
-pub returns-in-Done : goal.returns-in-Done
-unfolding as_written
-returns-in-Done c = rw (c.in-Done.is, ← c.written_vels-vels.ensures)
+returns c = rw (← c.written_vels.ensures)

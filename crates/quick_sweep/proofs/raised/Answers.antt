@@ -1,12 +1,9 @@
--- `quick_sweep::raised` meets its contract. By whether the contact has a flag. Assumes nothing.
-use mathlib.Core.Path.{refl}
-use Rattle.quick_sweep.proofs.Flags.{no_flag}
+-- `quick_sweep::raised` meets its contract. By what the library says of a look-up. Assumes nothing.
+use Rattle.std.proofs.Common.{rules}
+use Rattle.std.proofs.lemmas.Option.{unwrap_or-slice_get}
 use Rattle.quick_sweep.specs.Flags.{raised}
 use Rattle.quick_sweep.proofs.raised.Goals as goal
 
-pub returns-then-k-flags : goal.returns-then-k-flags
-unfolding raised
-returns-then-k-flags c = refl
-
 pub returns : goal.returns
-returns c = search no_flag
+unfolding raised
+returns c = search (rules, unwrap_or-slice_get)

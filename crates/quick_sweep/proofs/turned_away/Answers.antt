@@ -2,16 +2,8 @@
 use Rattle.quick_sweep.proofs.Flags.{by_flag, put_right}
 use Rattle.quick_sweep.proofs.turned_away.Goals as goal
 
-pub returns-then-raised : goal.returns-then-raised
-returns-then-raised c =
-    record {
-      looked = by_flag _ _ _ c.requires c.raised.ensures c.if-raised.true;
-      trusting = c.requires;
-    }
+pub returns-then-raised-clause-looked : goal.returns-then-raised-clause-looked
+returns-then-raised-clause-looked c = by_flag _ _ _ c.requires c.raised.ensures c.if-raised.true
 
-pub returns-then-found-eq0 : goal.returns-then-found-eq0
-returns-then-found-eq0 c =
-    record {
-      looked = c.look-found.ensures;
-      trusting = put_right _ _ _ c.requires c.look-found.ensures c.if-found-eq0.true c.raise.ensures;
-    }
+pub returns-then-is_none-clause-trusting : goal.returns-then-is_none-clause-trusting
+returns-then-is_none-clause-trusting c = put_right _ _ _ c.requires _ c.look-found.ensures c.is_none.ensures c.if-is_none.true c.raise.ensures

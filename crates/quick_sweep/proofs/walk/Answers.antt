@@ -1,5 +1,5 @@
 -- `quick_sweep::walk` meets its contract. After i steps the tables, the room and the count are those of the first i steps, and the flags are right. Assumes nothing.
-use Rattle.quick_sweep.proofs.SoFar.{count_fits, go_on, gone, at_start}
+use Rattle.quick_sweep.proofs.SoFar.{at_start, count_fits, go_on, gone}
 use Rattle.quick_sweep.proofs.walk.Goals as goal
 
 pub loop-i-init : goal.loop-i-init

@@ -1,6 +1,6 @@
--- `replay_compare::tell` meets its contract. Its fields one after the other. Assumes nothing.
-use Rattle.replay_compare.proofs.Cases.{two_fields}
+-- `replay_compare::tell` meets its contract. One field after the day's number. Assumes nothing.
+use Rattle.replay_compare.proofs.Cases.{one_field}
 use Rattle.replay_compare.proofs.tell.Goals as goal
 
 pub returns : goal.returns
-returns c = search two_fields
+returns c = search one_field

@@ -5,8 +5,8 @@ use Rattle.replay_judge.proofs.end_comparing.Goals as goal
 pub returns-then-holds_only : goal.returns-then-holds_only
 returns-then-holds_only c = search z_ends
 
-pub returns-in-Line : goal.returns-in-Line
-returns-in-Line c = search next_ends
+pub returns-in-Some : goal.returns-in-Some
+returns-in-Some c = search next_ends
 
-pub returns-in-Other : goal.returns-in-Other
-returns-in-Other c = search other_ends
+pub returns-in-None : goal.returns-in-None
+returns-in-None c = search other_ends

@@ -6,8 +6,7 @@ pub returns-then-holds_only : goal.returns-then-holds_only
 returns-then-holds_only c = search back
 
 pub returns-then-holds_only-2 : goal.returns-then-holds_only-2
-returns-then-holds_only-2 c =
-    with_d _ _ _ _ _ (c.holds_only.ensures) (c.if-holds_only.false) (c.holds_only-2.ensures) (c.if-holds_only-2.true) (c.feed_byte-with.ensures) (c.portion-next.ensures)
+returns-then-holds_only-2 c = search with_d
 
 pub returns : goal.returns
 returns c = search without_d

@@ -6,6 +6,6 @@ use Rattle.replay_judge.proofs.judge_end.Goals as goal
 pub returns : goal.returns
 returns c =
     record {
-      finishes = finishes _ _ _ _ (search rules) (c.end_file.ensures);
+      finishes = finishes _ _ _ _ (search rules) (c.tell_end.ensures);
       upper_bound = search rules;
     }

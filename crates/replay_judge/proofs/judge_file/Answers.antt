@@ -4,4 +4,4 @@ use Rattle.replay_judge.proofs.judge_file.Goals as goal
 
 pub returns : goal.returns
 returns c =
-    file_judged _ _ _ _ (c.end_file.ensures) (c.judge_portion-t.ensures.portion) (c.begin.ensures) (c.judge_portion-t.ensures.portion_len_bound)
+    file_judged _ _ _ _ (c.tell_end.ensures) (c.judge_portion-t.ensures.portion) (c.begin.ensures) (c.judge_portion-t.ensures.portion_len_bound)

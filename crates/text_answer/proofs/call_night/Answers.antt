@@ -2,5 +2,5 @@
 use Rattle.text_answer.proofs.Called.{called_is}
 use Rattle.text_answer.proofs.call_night.Goals as goal
 
-pub returns : goal.returns
-returns c = search called_is
+pub returns-clause-called : goal.returns-clause-called
+returns-clause-called c = search called_is

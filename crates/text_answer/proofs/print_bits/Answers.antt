@@ -1,12 +1,11 @@
 -- `text_answer::print_bits` meets its contract. The first i numbers are printed. Assumes nothing.
-use native.Mathlib.Omega.{arith}
 use mathlib.Core.Path.{refl}
 use Rattle.text_answer.proofs.Floating.{none_printed, print_one}
 use borrow.Author.Rules.{rules}
 use Rattle.text_answer.proofs.print_bits.Goals as goal
 
 pub loop-i-init : goal.loop-i-init
-loop-i-init c = (omega arith, refl, none_printed _ _)
+loop-i-init c = (refl, none_printed _ _)
 
 pub loop-i-preserved : goal.loop-i-preserved
-loop-i-preserved c = (omega arith, search rules, search print_one)
+loop-i-preserved c = (search rules, search print_one)

@@ -2,8 +2,8 @@
 use Rattle.text_answer.proofs.Called.{done_written, refused_written}
 use Rattle.text_answer.proofs.write_ended.Goals as goal
 
-pub returns-then-refusal-ne0 : goal.returns-then-refusal-ne0
-returns-then-refusal-ne0 c = search refused_written
+pub returns-in-Err-clause-wrote : goal.returns-in-Err-clause-wrote
+returns-in-Err-clause-wrote c = search refused_written
 
-pub returns : goal.returns
-returns c = search done_written
+pub returns-in-Ok-clause-wrote : goal.returns-in-Ok-clause-wrote
+returns-in-Ok-clause-wrote c = search done_written

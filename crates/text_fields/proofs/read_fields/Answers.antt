@@ -2,11 +2,11 @@
 use Rattle.text_fields.proofs.Turn.{all_got, stop, turn}
 use Rattle.text_fields.proofs.read_fields.Goals as goal
 
-pub returns-in-Bad : goal.returns-in-Bad
-returns-in-Bad c = search stop
+pub returns-in_err-field : goal.returns-in_err-field
+returns-in_err-field c = rw c.from_residual.ensures (search (stop, c.in_err-field.was))
 
-pub loop-i-preserved : goal.loop-i-preserved
-loop-i-preserved c = search turn
+pub loop-value-preserved : goal.loop-value-preserved
+loop-value-preserved c = search (turn, c.in_ok-field.was)
 
 pub returns : goal.returns
 returns c = search all_got

@@ -1,23 +1,25 @@
+use Prim.Native.Nat.{ℕ}
+use native.Mathlib.Omega.{arith}
+use lib.ListN.{length-take}
 use Rattle.text_line.specs.Filled.{HasRoom}
-use borrow.Author.Rules.{rules}
 use Rattle.text_line.proofs.Stored.{put_all}
 use Rattle.text_line.proofs.put_row.Goals as goal
 
-pub append_bits-requires : goal.append_bits-requires
+pub append-requires : goal.append-requires
 unfolding HasRoom
-append_bits-requires c = search rules
+append-requires c = omega (arith, length-take {A = ℕ})
 
-pub append_numbers-requires : goal.append_numbers-requires
+pub append-requires-2 : goal.append-requires-2
 unfolding HasRoom
-append_numbers-requires c = search rules
+append-requires-2 c = omega (arith, length-take {A = ℕ})
 
-pub append_bits-requires-2 : goal.append_bits-requires-2
+pub append-requires-3 : goal.append-requires-3
 unfolding HasRoom
-append_bits-requires-2 c = search rules
+append-requires-3 c = omega (arith, length-take {A = ℕ})
 
-pub append_numbers-requires-2 : goal.append_numbers-requires-2
+pub append-requires-4 : goal.append-requires-4
 unfolding HasRoom
-append_numbers-requires-2 c = search rules
+append-requires-4 c = omega (arith, length-take {A = ℕ})
 
 pub returns : goal.returns
 returns c = search put_all

@@ -7,7 +7,7 @@ use Rattle.text_program.proofs.answer_state.Goals as goal
 
 pub answer_night-requires : goal.answer_night-requires
 unfolding zeros
-answer_night-requires c = (search (bodies_cut, rules), search (floats_cut, rules), refl)
+answer_night-requires c = record { bodies = search (bodies_cut, rules); contacts = search (floats_cut, rules); answers = refl }
 
 pub returns : goal.returns
-returns c = search cut_answer
+returns c = cut_answer _ _ _ _ _ c.answer_night.ensures.wrote

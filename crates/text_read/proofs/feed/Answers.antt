@@ -3,12 +3,12 @@ use borrow.Author.Rules.{rules}
 use Rattle.text_read.proofs.Going.{bad_fed, next_fed, over_fed}
 use Rattle.text_read.proofs.feed.Goals as goal
 
-pub returns-then-is_bad : goal.returns-then-is_bad
-returns-then-is_bad c = search bad_fed
+pub returns-then-is_some-clause-fed : goal.returns-then-is_some-clause-fed
+returns-then-is_some-clause-fed c = search bad_fed
 
 pub loop-i-preserved : goal.loop-i-preserved
 loop-i-preserved c =
-    (c.feed_line-turn.ensures.within, search rules, search rules, search rules, search rules, search rules, search next_fed)
+    record { within = search rules; long = search rules; same = search rules; so_far = search next_fed }
 
-pub returns : goal.returns
-returns c = search over_fed
+pub returns-clause-fed : goal.returns-clause-fed
+returns-clause-fed c = search over_fed

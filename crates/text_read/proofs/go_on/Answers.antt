@@ -2,8 +2,8 @@
 use Rattle.text_read.proofs.Going.{on_held, on_long}
 use Rattle.text_read.proofs.go_on.Goals as goal
 
-pub returns-then-len-run : goal.returns-then-len-run
-returns-then-len-run c = search on_long
+pub returns-then-k-run : goal.returns-then-k-run
+returns-then-k-run c = search on_long
 
 pub returns : goal.returns
 returns c = search on_held

@@ -2,8 +2,8 @@
 use Rattle.text_read.proofs.Ending.{last, no_last}
 use Rattle.text_read.proofs.last_line.Goals as goal
 
-pub returns-then-len-eq0 : goal.returns-then-len-eq0
-returns-then-len-eq0 c = search no_last
+pub returns-then-k-eq0-clause-closes : goal.returns-then-k-eq0-clause-closes
+returns-then-k-eq0-clause-closes c = search no_last
 
-pub returns : goal.returns
-returns c = search last
+pub returns-clause-closes : goal.returns-clause-closes
+returns-clause-closes c = search last

@@ -1,9 +1,12 @@
--- `text_write::dec_fields` meets its contract. The first i fields are written. Assumes nothing.
-use Rattle.text_write.proofs.Fields.{none_yet, one_more}
+-- `text_write::dec_fields` meets its contract. The first fields are written. Assumes nothing.
+use Rattle.text_write.proofs.Fields.{all_of_them, none_yet, one_more}
 use Rattle.text_write.proofs.dec_fields.Goals as goal
 
-pub loop-i-init : goal.loop-i-init
-loop-i-init c = search none_yet
+pub loop-x-init : goal.loop-x-init
+loop-x-init c = search none_yet
 
-pub loop-i-preserved : goal.loop-i-preserved
-loop-i-preserved c = search one_more
+pub loop-x-preserved : goal.loop-x-preserved
+loop-x-preserved c = search one_more
+
+pub returns : goal.returns
+returns c = search all_of_them

@@ -1,6 +1,0 @@
--- `text_digits::dec_field` meets its contract. The tab, then the number. Assumes nothing.
-use Rattle.text_digits.proofs.Written.{dec_after}
-use Rattle.text_digits.proofs.dec_field.Goals as goal
-
-pub returns : goal.returns
-returns c = search dec_after

@@ -1,6 +1,0 @@
--- `text_digits::hex_field` meets its contract. The tab, then the digits. Assumes nothing.
-use Rattle.text_digits.proofs.Written.{hex_after}
-use Rattle.text_digits.proofs.hex_field.Goals as goal
-
-pub returns : goal.returns
-returns c = search hex_after

@@ -1,0 +1,14 @@
+-- `text_program::write_read` meets its contract. What was read, and a bad line. Assumes nothing.
+use Rattle.text_line.specs.Night.{of_program}
+use Rattle.text_program.proofs.Whole.{bad_written, fine_written, program_room}
+use borrow.Author.Rules.{rules}
+use Rattle.text_program.proofs.write_read.Goals as goal
+
+pub returns-in-None-clause-written : goal.returns-in-None-clause-written
+unfolding of_program
+returns-in-None-clause-written c =
+    fine_written _ _ (search rules) (program_room _ _ _ _ (search rules) (search rules) (search rules) (search rules))
+    c.within-st.ensures c.answer_state.ensures
+
+pub returns-in-Some-clause-written : goal.returns-in-Some-clause-written
+returns-in-Some-clause-written c = search (bad_written, rules)
