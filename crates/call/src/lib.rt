@@ -22,7 +22,8 @@ pub struct Done {
 }
 
 // The rows of each stretch are as wide as base_places says. Bodies: x, y and angular w. Contacts: numbers (body 1, body 2,
-// count), and floats (the head, point a, point b). Steps: contact, kind. Room: number, branch.
+// count), and floats (the head, point a, point b). Steps: contact, kind. Room: number, branch. They come one by one, as the
+// exported call takes them.
 pub fn call(
     bodies: &mut [f32],
     numbers: &[u16],

@@ -68,7 +68,7 @@ impl ContactConstraintNormalPart {
         ContactConstraintNormalPart::ZERO
     }
 
-    // What the point has pushed over all turns of the recording.
+    // What the point has pushed over all turns of the recording. (This and warmstart stand in both parts, as in the Rust.)
     pub fn total_impulse(self) -> f32
         ensures { result ≡ self.impulse_accumulator +f self.impulse }
     {

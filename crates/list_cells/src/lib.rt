@@ -1,5 +1,6 @@
 // What a step writes into the lent stretches, cell by cell, and nothing else. The engine knows that the rows of a step's
-// bodies and of its contact are there; an answer's row need not be, and then it is not written.
+// bodies and of its contact are there; an answer's row need not be, and then it is not written. (Records are written to rows
+// by functions that ask how long the part is, as list_tables reads them.)
 #![tactic(auto)]
 
 ghost use Rattle.std.specs.Prelude.{◌≡◌, ◌<◌, length};

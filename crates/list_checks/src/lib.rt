@@ -16,13 +16,16 @@ use base_refusals::Refusal;
 use list_tables::step_at;
 use step_shape::kind_above;
 
-// The largest contact number and the largest kind of a list; 0 and 0 where it is empty.
+// The largest contact number and the largest kind of a list; 0 and 0 where it is empty (that it has a step is asked beside it:
+// an Option would put a test into the walk).
 #[derive(Clone, Copy)]
 pub struct Most {
     pub contact: u16,
     pub kind: u16,
 }
 
+// What is lent comes as the call has it, here and below: nothing is written, and a struct of stretches to be written, as the
+// engine's, would ask more of who looks.
 fn too_many(bodies: &[f32], numbers: &[u16], floats: &[f32], steps: &[u16]) -> bool
     ensures { result ≡ too_many (tables bodies.now numbers.now floats.now) steps.now }
 {
@@ -51,7 +54,8 @@ fn wrong_sizes(bodies: &[f32], numbers: &[u16], floats: &[f32], steps: &[u16], r
         | differ
 }
 
-// One walk over the list for 2 and 3, without a way out, so that the compiler makes vectors of it.
+// One walk over the list for 2 and 3, without a way out, so that the compiler makes vectors of it; by `step_at`, which is how
+// the definitions see a step.
 fn largest(steps: &[u16]) -> Most
     ensures { result ≡ largest steps.now }
 {

@@ -1,5 +1,6 @@
 // The lent stretches as tables of rows: a row is lent as a part and read as a record. A row that a
-// table does not have reads as zero; velocity_in and contact_in ask that it is there.
+// table does not have reads as zero; velocity_in and contact_in ask that it is there. (A row is read by a function and no
+// From: how long the part is, is asked. The stretches are those of the C interface.)
 #![tactic(auto)]
 
 ghost use Rattle.std.specs.Prelude.{◌≡◌, min, ◌<◌, length};

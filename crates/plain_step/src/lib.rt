@@ -85,7 +85,7 @@ fn worked(contact: Contact, kind: u16, vels: Vels) -> Outcome
     Ok(solved)
 }
 
-// A step with the velocities as they read.
+// A step with the velocities as they read. (Contact, kind and velocities are three parameters, as the definitions have them.)
 fn tried(contact: Contact, kind: u16, vels: Vels, rows: usize) -> Outcome
     ensures { outcome_of result ≡ tried contact kind vels rows }
 {

@@ -10,7 +10,7 @@ ghost use Rattle.base_refusals.specs.Numbers.{number_of};
 ghost use Rattle.base_rows.specs.Rows.{rows};
 ghost use Rattle.list_tables.specs.Tables.{contact_at};
 ghost use Rattle.step_shape.specs.Shape.{wrong_bodies, wrong_count};
-ghost use Rattle.list_rules.specs.Sweep.{step_on, vels_at};
+ghost use Rattle.list_rules.specs.Sweep.{step_on, tables, vels_at};
 ghost use Rattle.quick_step.specs.Trusted.{Left, Looked, StillLent, Trusted, tables_of};
 
 use base_places::{BODY_WIDTH, FLOATS_WIDTH};
@@ -42,19 +42,20 @@ fn velocities_at(bodies: &[f32], head: ContactHead) -> Vels
     }
 }
 
-// What turns the step away before it is worked; nothing where its contact is to be trusted.
-pub fn look(lent: &Lent<'_>, s: Step) -> Option<Refusal>
-    ensures { Looked s (tables_of lent.now) (number_of result) }
+// What turns the step away before it is worked; nothing where its contact is to be trusted. It only reads, and so takes
+// stretches that need not be lent to be written.
+pub fn look(bodies: &[f32], numbers: &[u16], floats: &[f32], s: Step) -> Option<Refusal>
+    ensures { Looked s (tables bodies.now numbers.now floats.now) (number_of result) }
 {
     let k = s.contact as usize;
-    let contact = contact_at(lent.numbers, lent.floats, k);
+    let contact = contact_at(numbers, floats, k);
     let head = contact.head;
-    let found = flaw(contact, lent.bodies.len() / BODY_WIDTH);
-    let lost = lost_vels(velocities_at(lent.bodies, head));
+    let found = flaw(contact, bodies.len() / BODY_WIDTH);
+    let lost = lost_vels(velocities_at(bodies, head));
     if found.is_none() & !lost {
         return None;
     }
-    if lent.floats.len() / FLOATS_WIDTH <= k {
+    if floats.len() / FLOATS_WIDTH <= k {
         return Some(Refusal::NoContact);
     }
     if kind_above(s.kind) {

@@ -37,7 +37,8 @@ fn raise(flags: &mut [bool], k: usize)
 }
 
 // What turns the step away before it is worked: nothing, if its contact's flag is up, and else what a look finds. Where
-// it finds nothing, the flag goes up.
+// it finds nothing, the flag goes up. (What the flags say, they say of the tables as they stand: it is asked beside them, and
+// is no fact of a type of flags alone.)
 fn turned_away(lent: &Lent<'_>, flags: &mut [bool], s: Step) -> Option<Refusal>
     requires { Trusting flags.old (tables_of lent.now) }
     ensures looked { Looked s (tables_of lent.now) (number_of result) }
@@ -47,7 +48,7 @@ fn turned_away(lent: &Lent<'_>, flags: &mut [bool], s: Step) -> Option<Refusal>
     if raised(flags, k) {
         return None;
     }
-    let found = look(lent, s);
+    let found = look(lent.bodies, lent.numbers, lent.floats, s);
     if found.is_none() {
         raise(flags, k);
     }
@@ -123,7 +124,8 @@ fn sweep_with<const N: usize>(
     walk(lent, steps, room, &mut flags, n)
 }
 
-// A few flags do for a table of few contacts, so that little has to be cleared; else there is one for each contact that a
+// The list and the room stand beside what is lent, here and above: a step reads one row of the first, and writes one of the
+// second. A few flags do for a table of few contacts, so that little has to be cleared; else there is one for each contact that a
 // call may have.
 pub fn sweep(lent: &mut Lent<'_>, steps: &[u16], room: &mut [u16], n: usize) -> usize
     ensures swept { swept (tables_of lent.new) room.new result ≡ sweep steps.now n (tables_of lent.old) room.old }

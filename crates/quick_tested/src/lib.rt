@@ -10,7 +10,7 @@ use elem_velocity::Vels;
 use step_values::not_finite_vels;
 
 // The largest float.
-const LARGEST: f32 = 3.4028235e38;
+const LARGEST: f32 = f32::MAX;
 
 // Told by two comparisons, so that a NaN and the infinities fail.
 fn in_reach(x: f32) -> bool

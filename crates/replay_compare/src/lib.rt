@@ -42,6 +42,7 @@ pub fn longer(line: LineSoFar, run: &[u8]) -> LineSoFar
     }
 }
 
+// The definitions' word for a line of one byte.
 pub fn holds_only(line: LineSoFar, b: u8) -> bool
     ensures { result ≡ holds_only line b }
 {

@@ -61,7 +61,8 @@ struct Turn {
 }
 
 // A line ended in a day's input: the D, after which the output of what was read is there to compare with, or one line
-// more.
+// more. (That output is lent beside the buffers of the input, and not in a struct with them: `go_on` and `end_comparing` only
+// read it.)
 fn end_input(
     line: LineSoFar,
     f: Feeding,
@@ -268,7 +269,7 @@ fn judge_portion(
     let mut page = Page { out: told, at: 0 };
     let mut judge = j;
     let mut i = 0;
-    // std has no split of a slice after a byte: the loop goes from one line to the next, not by one
+    // from one line to the next, as `text_read` does; the library's `split_inclusive` takes four times as long
     while i < portion.len() {
         let t = judge_line(judge, portion, i, &mut *input, &mut *out, &mut page);
         judge = t.judge;
@@ -323,7 +324,8 @@ fn end_file(j: Judge, input: &mut NightBuffers, out: &mut [u8; LONGEST_OUTPUT], 
     end_day(judge, page);
 }
 
-// The same in a buffer from a place on: the place after what is told.
+// The same in a buffer from a place on: the place after what is told. (A page is borrowed from its buffer, and ends with the
+// call that made it.)
 fn tell_end(
     j: Judge,
     input: &mut NightBuffers,

@@ -1,6 +1,7 @@
 // What each kind of step does with a contact and the velocities of its two bodies: the rules at a
 // point, over the points below count, and the routine that a kind chooses. All is by value: a
-// contact and two velocities in, the new ones back.
+// contact and two velocities in, the new ones back. They are parameters of their own, since document
+// 01 and KindsPush have a rule of a head, a point and velocities, and a kind of a contact and velocities.
 #![tactic(auto)]
 
 ghost use Rattle.std.specs.Prelude.{◌≡◌};

@@ -38,6 +38,8 @@ pub record Fits (t : Read) (v : Room) : Type 0 where
 pub record KeptRead (t t' : Read) : Type 0 where
   pub bodies : t'.bodies.ghost_name ≡ t.bodies.ghost_name
   pub floats : t'.floats.ghost_name ≡ t.floats.ghost_name
+  pub numbers : t'.numbers.now ≡ t.numbers.now
+  pub steps : t'.steps.now ≡ t.steps.now
   pub as_bodies : length t'.bodies.now ≡ length t.bodies.now
   pub as_floats : length t'.floats.now ≡ length t.floats.now
 

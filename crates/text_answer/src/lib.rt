@@ -68,7 +68,7 @@ fn call_night(read: &Read, room: &mut Room) -> Result<Done, Refusal>
     )
 }
 
-// The answers of the steps done, which have filled the front of the room.
+// The answers of the steps done, which have filled the front of the room. (Tested, and no `min`, so that the product fits.)
 fn answers_of(room: &[u16], done: usize) -> &[u16]
     ensures { result.now ≡ take (done * answer_width) room.now }
 {

@@ -125,6 +125,9 @@ fn four_digits(n: u64) -> [u8; 4]
 
 // A lent buffer, and the place where writing goes on in it. What has no room is not written, and leaves the place at the
 // buffer's end.
+//
+// That the place is within the buffer is asked by some private functions and is no fact of the type: the others take a page
+// with any place.
 #[derive(Drop)]
 pub struct Page<'a> {
     pub out: &'a mut [u8],

@@ -23,6 +23,7 @@ pub enum Letter {
     Normal,
     Tangent,
     Step,
+    // It is asked about as the others are (what it adds, where it leads), and so it is a letter and no None.
     Other,
 }
 
@@ -49,7 +50,8 @@ pub struct Field {
     pub next: usize,
 }
 
-// What a line says after its letter, from the front. No line has more of one form than an N line.
+// What a line says after its letter, from the front. No line has more of one form than an N line. How many there are of each,
+// its letter says.
 #[derive(Clone, Copy)]
 pub struct Row {
     pub numbers: [u32; NORMAL_WIDTH],
@@ -73,7 +75,8 @@ impl From<u8> for Letter {
     }
 }
 
-// The place from `at` on of the first byte `end`, byte after byte; the end of s, where there is none.
+// The place from `at` on of the first byte `end`, byte after byte; the end of s, where there is none. (By index: what
+// `position` promises is a run of its test, and the law from that to `until` is longer than this loop.)
 #[tactic(auto, using(crate::proofs::Until::end, crate::proofs::Until::here, crate::proofs::Until::on))]
 fn seek(s: &[u8], at: usize, end: u8) -> usize
     requires { at ≤ length s.now }
@@ -100,7 +103,8 @@ fn lacks(s: &[u8], end: u8) -> bool
     free
 }
 
-// The same place, by blocks of bytes that lack it: for runs that are long, as lines are.
+// The same place, by blocks of bytes that lack it: for runs that are long, as lines are. The place is counted beside the
+// blocks: an `enumerate` would have it multiplied at each.
 pub fn run_end(s: &[u8], at: usize, end: u8) -> usize
     requires { at ≤ length s.now }
     ensures { (result ≡ at + until end (drop at s.now)) × (at ≤ result) × (result ≤ length s.now) }

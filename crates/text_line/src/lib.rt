@@ -151,7 +151,8 @@ pub fn append<T: Copy>(t: &mut [T], at: usize, more: &[T]) -> usize
     end
 }
 
-// Decimal numbers fit in 16 bits.
+// Decimal numbers fit in 16 bits. (By index: `zip` over `iter_mut` tells no name of what it writes, and `map` of an array asks
+// that of every number which holds of these.)
 fn narrowed(row: [u32; NORMAL_WIDTH]) -> [u16; NORMAL_WIDTH]
     requires { Small (most Decimal) row }
     ensures { result ≡ row }

@@ -71,9 +71,11 @@ impl NightBuffers {
         text_read::portion(k, s, &mut self.line, &mut tables)
     }
 
-    // The end of the text. The tables are as long as document 01 says.
+    // The end of the text. The tables are as long as document 01 says. (They are lent as in `portion`: a function that made
+    // the Tables would give out borrows of four fields at once.)
     pub fn end(&mut self, k: Reader) -> Reader
         ensures ends { Ends k self.old.line (cells_of self.old) result self.new.line (cells_of self.new) }
+        ensures line { self.new.line ≡ self.old.line }
         ensures room { room_of (cells_of self.old) ≡ of_program }
     {
         let mut tables = Tables {
@@ -168,5 +170,5 @@ pub fn answer_text(input: &[u8], out: &mut [u8; LONGEST_OUTPUT]) -> usize
 pub fn front(bytes: &[u8], n: usize) -> &[u8]
     ensures { result.now ≡ take n bytes.now }
 {
-    if n < bytes.len() { &bytes[..n] } else { bytes }
+    &bytes[..n.min(bytes.len())]
 }

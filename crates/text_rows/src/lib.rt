@@ -74,7 +74,7 @@ fn point_line(page: &mut Page, numbers: &[u16], floats: &[u32], j: usize)
     }
 }
 
-// The loads of points, from their contacts' two tables.
+// The loads of points, from their contacts' two tables: point after point, as the definition counts them, two to a contact.
 pub fn loads(page: &mut Page, numbers: &[u16], floats: &[u32])
     ensures { Writes page.old (listing Loads numbers.now floats.now) page.new }
 {
