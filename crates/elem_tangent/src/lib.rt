@@ -50,7 +50,7 @@ impl ContactConstraintTangentPart {
     }
 
     // What the point has pushed over all turns of the recording. (This and warmstart stand in both parts, as in the Rust: a
-    // trait of the two would name seven fields to save these two bodies.)
+    // trait of the two would name four fields to save these two bodies.)
     pub fn total_impulse(self) -> f32
         ensures { result ≡ self.impulse_accumulator +f self.impulse }
     {

@@ -16,8 +16,8 @@ use base_refusals::Refusal;
 use list_tables::step_at;
 use step_shape::kind_above;
 
-// The largest contact number and the largest kind of a list; 0 and 0 where it is empty (that it has a step is asked beside it:
-// an Option would put a test into the walk).
+// The largest contact number and the largest kind of a list; 0 and 0 where it is empty, as the definition `largest` has it:
+// whether there is a step is asked beside it.
 #[derive(Clone, Copy)]
 pub struct Most {
     pub contact: u16,

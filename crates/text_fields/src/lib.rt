@@ -75,8 +75,8 @@ impl From<u8> for Letter {
     }
 }
 
-// The place from `at` on of the first byte `end`, byte after byte; the end of s, where there is none. (By index: what
-// `position` promises is a run of its test, and the law from that to `until` is longer than this loop.)
+// The place from `at` on of the first byte `end`, byte after byte; the end of s, where there is none. (By index: with
+// `position`, tried, `search` doesn't come from what that promises, a run of its test, to `until`.)
 #[tactic(auto, using(crate::proofs::Until::end, crate::proofs::Until::here, crate::proofs::Until::on))]
 fn seek(s: &[u8], at: usize, end: u8) -> usize
     requires { at ≤ length s.now }
@@ -104,7 +104,7 @@ fn lacks(s: &[u8], end: u8) -> bool
 }
 
 // The same place, by blocks of bytes that lack it: for runs that are long, as lines are. The place is counted beside the
-// blocks: an `enumerate` would have it multiplied at each.
+// blocks: an `enumerate` would have it as a sum and a product, no plainer.
 pub fn run_end(s: &[u8], at: usize, end: u8) -> usize
     requires { at ≤ length s.now }
     ensures { (result ≡ at + until end (drop at s.now)) × (at ≤ result) × (result ≤ length s.now) }

@@ -3,8 +3,5 @@ use native.Mathlib.Omega.{arith}
 use Rattle.quick_sweep.proofs.Flags.{none_up}
 use Rattle.quick_sweep.proofs.sweep_with.Goals as goal
 
-pub whole_as_slice-walk : goal.whole_as_slice-walk
-whole_as_slice-walk g c = omega (arith, c.requires)
-
 pub walk-requires : goal.walk-requires
 walk-requires g c = none_up _ _

@@ -1,15 +1,11 @@
 -- `text_rows::loads` meets its contract. The lines of the first j points are written. Assumes nothing.
 use borrow.Author.Rules.{rules}
-use Rattle.text_digits.proofs.Then.{ready}
 use Rattle.text_write.proofs.Lines.{all_lines, from_start, line_more}
 use Rattle.text_rows.specs.Tables.{listing}
 use Rattle.text_rows.proofs.loads.Goals as goal
 
 pub loop-j-init : goal.loop-j-init
 loop-j-init c = search from_start
-
-pub point_line-requires : goal.point_line-requires
-point_line-requires c = (search rules, ready c.loop-j.invariant)
 
 pub loop-j-preserved : goal.loop-j-preserved
 loop-j-preserved c = search line_more

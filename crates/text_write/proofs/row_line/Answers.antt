@@ -1,10 +1,6 @@
 -- `text_write::row_line` meets its contract. Field after field. Assumes nothing.
-use Rattle.text_digits.proofs.Then.{ready}
 use Rattle.text_write.proofs.Lines.{line_written}
 use Rattle.text_write.proofs.row_line.Goals as goal
-
-pub end_line-requires : goal.end_line-requires
-end_line-requires c = ready c.dec_fields.ensures
 
 pub returns : goal.returns
 returns c = search line_written

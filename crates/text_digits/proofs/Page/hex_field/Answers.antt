@@ -1,10 +1,6 @@
 -- `text_digits::Page::hex_field` meets its contract. The tab, then the digits. Assumes nothing.
-use Rattle.text_digits.proofs.Then.{ready}
 use Rattle.text_digits.proofs.Written.{hex_after}
 use Rattle.text_digits.proofs.Page.hex_field.Goals as goal
-
-pub put_all-requires-2 : goal.put_all-requires-2
-put_all-requires-2 c = ready c.put_all.ensures
 
 pub returns : goal.returns
 returns c = search hex_after
