@@ -79,7 +79,7 @@ fn worked(contact: Contact, kind: u16, vels: Vels) -> Outcome
     ensures { outcome_of result ≡ first_or (10 when unwritable kind (routine kind contact vels) ∷ []) (routine kind contact vels) }
 {
     let solved = routine(contact, kind, vels);
-    if unwritable(kind, solved) {
+    if unwritable(kind, solved.contact, solved.vels) {
         return Err(Refusal::Unwritable);
     }
     Ok(solved)

@@ -5,6 +5,7 @@ use native.Mathlib.Numerals.{add-one}
 use mathlib.Core.Bool.{Bool}
 use mathlib.Core.List.{List}
 use mathlib.Core.Path.{◌≡◌, ◌∙◌, ap}
+use lib.Ieee.{Float}
 use mir.Syntax.{w64}
 use mir.Val.{Fits}
 use Rattle.base_places.specs.Places.{step_width}
@@ -15,7 +16,7 @@ use Rattle.list_cells.specs.Cells.{put_answer}
 use Rattle.list_cells.specs.declared.Answer.{Answer}
 use Rattle.list_tables.specs.declared.Step.{Step}
 use Rattle.base_order.proofs.Snoc.{answers_none, count_none, finish_none, one_at_most}
-use Rattle.list_rules.specs.Sweep.{Swept, Tables, first_steps, is_refused, laid, step_on, sweep, swept}
+use Rattle.list_rules.specs.Sweep.{Swept, Tables, first_steps, is_refused, laid, step_on, sweep, swept, tables}
 use Rattle.list_rules.proofs.Going.{few_refused, sweep_min, sweep_suc}
 use Rattle.quick_sweep.specs.Flags.{Trusting}
 use Rattle.quick_sweep.specs.Next.{StepDone}
@@ -65,3 +66,9 @@ module _ (steps : List ℕ) (t₀ : Tables) (room₀ : List ℕ) where
   gone asked n i among h l going =
       let e : i ≡ min asked (rows step_width steps) = omega (arith, among) in
       (rw e at going.so_far) ∙ sweep_min steps t₀ room₀ asked
+
+  -- the same of stretches that were lent on: they hold what was left there
+  pub gone_near : (asked n i : ℕ) {t : Tables} {room : List ℕ} {flags : List Bool} {refused : ℕ} → n ≡ min asked (rows step_width steps)
+      → i ≤ n → n ≤ i → SoFar steps t₀ room₀ t room flags i refused → {b f : List Float} {numbers : List ℕ} → b ≡ t.bodies → t.numbers ≡ numbers → f ≡ t.floats
+      → swept (tables b numbers f) room refused ≡ sweep steps asked t₀ room₀
+  gone_near asked n i among h l going eb en ef = rw (eb, ← en, ef) (gone asked n i among h l going)

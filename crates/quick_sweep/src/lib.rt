@@ -101,9 +101,15 @@ fn walk(lent: &mut Lent<'_>, steps: &[u16], room: &mut [u16], flags: &mut [bool]
     ensures still_lent { StillLent lent.old lent.new }
 {
     let last = steps_among(steps, n);
+    // lent on from here: where the stretches lie is then known to the compiler, which would look it up at every step
+    let mut near = Lent {
+        bodies: &mut *lent.bodies,
+        numbers: lent.numbers,
+        floats: &mut *lent.floats,
+    };
     let mut refused = 0;
     for i in 0..last {
-        let answer = next_step(lent, steps, room, flags, i);
+        let answer = next_step(&mut near, steps, room, flags, i);
         refused += refusal(answer);
     }
     refused

@@ -1,5 +1,5 @@
 -- What was read and what was written, where the bytes of both are known. Assumes nothing.
-use Rattle.std.specs.Prelude.{ℕ, ◌+◌, ◌*◌, ◌≤◌, List, [], ◌++◌, ◌≡◌, None, Some, IfSome, Option, Result, Ok, Err, OnOk, IsOk, length, take}
+use Rattle.std.specs.Prelude.{ℕ, Bool, true, false, ◌&&◌, ◌+◌, ◌*◌, ◌≤◌, List, [], ◌++◌, ◌≡◌, None, Some, IfSome, Option, Result, Ok, Err, OnOk, IsOk, length, ltb, take}
 use Rattle.std.proofs.Common.{ap, arith, append-nil, length-append, length-take, subst, sym, ◌∙◌}
 use Rattle.std.proofs.KnownBytes.{Appends-nil, Appends-trans, Consumes-nil, Consumes-trans}
 use Rattle.std.specs.Io.KnownBytes.{Appends, Consumes, IsAtEnd}
@@ -75,3 +75,7 @@ run_ends (Some file) (Some rest) begun to to' {told' = told'} {at = at} f end do
 pub well_written : {E A : Type 0} (r : Result Unit E) → OnOk r A → IsOk r → A
 well_written (Ok x) a well = a
 well_written (Err e) a well = absurd cc
+
+-- a turn that went well, after which no more is read
+pub nothing_left : (more well : Bool) (n : ℕ) → more ≡ false → well ≡ true → more ≡ well && ltb 0 n → n ≡ 0
+nothing_left more well n m w e = grind arith

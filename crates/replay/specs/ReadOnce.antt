@@ -18,7 +18,7 @@ pub record Onward : Type 0 where
 
 -- a call that failed read no byte
 abbrev pub onward : {E : Type 0} → Judge → Result Reading E → Onward
-onward j (Ok r) = record { judge = r.judge; read = r.read; count = r.count; more = ltb 0 r.read; well = true }
+onward j (Ok r) = record { judge = r.judge; read = r.read; count = r.count; more = r.more; well = true }
 onward j (Err e) = record { judge = j; read = 0; count = 0; more = false; well = false }
 
 -- the bytes that were read were judged, and all that they tell was handed to be written; there may be more to read exactly where all went well and

@@ -11,7 +11,7 @@ ghost use Rattle.replay_judge.specs.Carried.{buffers_of};
 ghost use Rattle.replay.specs.ReadOnce.{ReadOnce, onward};
 
 use base_places::{LONGEST_OUTPUT, PORTION, TOLD};
-use replay_judge::{Judge, begin, judge_end, judge_read};
+use replay_judge::{Judge, begin};
 use std::fmt;
 use std::io::{Read, Write};
 use text_program::{MOST_PORTIONS, NightBuffers};
@@ -35,12 +35,14 @@ impl fmt::Display for Failed {
     }
 }
 
-// After a portion: what is carried on, how many bytes were read, and how many are told of them.
+// After a portion: what is carried on, how many bytes were read, how many are told of them, and whether there may be more to
+// read.
 #[derive(Clone, Copy)]
 struct Reading {
     judge: Judge,
     read: usize,
     count: usize,
+    more: bool,
 }
 
 // Reads once, and tells of the days that end there. Where the read fails, it is as if no byte was read.
@@ -61,11 +63,12 @@ fn replay_some<R: Read>(
     let Ok(n) = from.read(&mut *portion) else {
         return Err(Failed::Unread);
     };
-    let t = judge_read(j, &*portion, n, night, out, told);
+    let t = j.read(&*portion, n, night, out, told);
     Ok(Reading {
         judge: t.judge,
         read: n,
         count: t.at,
+        more: 0 < n,
     })
 }
 
@@ -91,8 +94,8 @@ fn replay_all<R: Read, W: Write>(from: &mut R, to: &mut W) -> Result<(), Failed>
         let on = replay_some(&mut *from, j, &mut portion, &mut night, &mut out, &mut told)?;
         write_told(&mut *to, &told[..on.count])?;
         j = on.judge;
-        if on.read == 0 {
-            let k = judge_end(j, &mut night, &mut out, &mut told);
+        if !on.more {
+            let k = j.end(&mut night, &mut out, &mut told);
             return write_told(to, &told[..k]);
         }
     }

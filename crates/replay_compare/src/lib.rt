@@ -113,14 +113,15 @@ pub fn tell(page: &mut Page, day: usize, second: u64)
     day_line(page, day, &[second]);
 }
 
-// The same, or the first differing line.
-#[tactic(auto, unfolding(replay_days::specs::Judged::verdict))]
+// The same, or the first differing line. Lines are counted from 1: a line 0 is none.
 pub fn tell_verdict(page: &mut Page, day: usize, differing: Option<usize>)
     ensures { Writes page.old (verdict day differing) page.new }
 {
-    match differing {
-        None => tell(page, day, 0),
-        Some(n) => day_line(page, day, &[1, n as u64]),
+    let n = differing.unwrap_or(0);
+    if n == 0 {
+        tell(page, day, 0);
+    } else {
+        day_line(page, day, &[1, n as u64]);
     }
 }
 

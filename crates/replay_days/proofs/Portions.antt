@@ -1,5 +1,5 @@
 -- Portion after portion; and how much is told, of how many days. Assumes nothing.
-use Prim.Native.Nat.{ℕ, suc, ◌+◌, ◌≤◌}
+use Prim.Native.Nat.{ℕ, zero, suc, ◌+◌, ◌≤◌}
 use native.Mathlib.Nat.{suc-mul}
 use native.Mathlib.Omega.{arith}
 use mathlib.Core.Bool.{Bool, true, false, cond}
@@ -91,7 +91,8 @@ number_short n = omega (arith, dec_field_lem n)
 verdict_short : (day : ℕ) (n : Option ℕ) → length (verdict day n) ≤ 64
 unfolding verdict day_line
 verdict_short day None = simp length-append (omega (arith, number_short day, dec_field_lem 0))
-verdict_short day (Some n) = simp length-append (omega (arith, number_short day, dec_field_lem 1, dec_field_lem n))
+verdict_short day (Some zero) = simp length-append (omega (arith, number_short day, dec_field_lem 0))
+verdict_short day (Some (suc n)) = simp length-append (omega (arith, number_short day, dec_field_lem 1, dec_field_lem (suc n)))
 
 ending_short : (day : ℕ) (left : List (List ℕ)) (n : ℕ) → length (ending day left n) ≤ 64
 unfolding ending

@@ -2,7 +2,7 @@
 use Rattle.std.specs.Prelude.{ℕ, false, List, Some}
 use Rattle.base_words.specs.Choice.{if◌then◌otherwise◌}
 use Rattle.base_places.specs.Lengths.{one_more}
-use Rattle.text_line.specs.Filled.{Cells}
+use Rattle.text_line.specs.Filled.{Cells, cells}
 use Rattle.text_read.specs.Carried.{fresh}
 use Rattle.text_program.specs.Tables.{cells_of}
 use Rattle.text_program.specs.declared.NightBuffers.{NightBuffers}
@@ -18,6 +18,9 @@ use Rattle.replay_judge.specs.declared.Judge.{Judge}
 pub record Buffers : Type 0 where
   pub line : List ℕ
   pub tables : Cells
+
+abbrev pub buffers : List ℕ → List ℕ → List ℕ → List ℕ → List ℕ → Buffers
+buffers line bodies numbers floats steps = record { line = line; tables = cells bodies numbers floats steps }
 
 abbrev pub buffers_of : NightBuffers → Buffers
 buffers_of input = record { line = input.line; tables = cells_of input }

@@ -1,5 +1,5 @@
--- What a program adds that reads a file in portions: it calls `begin`, `judge_read` on each portion, `judge_end`, each call with what the one
--- before left, and writes what each call tells. Then what it writes is `judged` of the file, however that was cut. Proved in
+-- What a program adds that reads a file in portions: it calls `begin`, `Judge::read` on each portion, `Judge::end` (or `judge_read` and `judge_end`), each
+-- call with what the one before left, and writes what each call tells. Then what it writes is `judged` of the file, however that was cut. Proved in
 -- proofs/Replayed.antt. Assumes nothing.
 use Rattle.std.specs.Prelude.{ℕ, ◌+◌, ◌≤◌, List, [], ◌∷◌, ◌++◌, ◌≡◌, length, take}
 use Rattle.replay_days.specs.Judged.{judged}
@@ -10,7 +10,7 @@ use Rattle.replay_judge.specs.Stands.{Begins, Finishes, Read}
 use Rattle.replay_judge.specs.declared.Judge.{Judge}
 use Rattle.replay_judge.specs.declared.Turned.{Turned}
 
--- the last call, of `judge_end`: `written` is what it told
+-- the last call, of `Judge::end`: `written` is what it told
 pub record LastCall (j : Judge) (input : Buffers) (out written : List ℕ) : Type 0 where
   pub told : List ℕ
   pub told' : List ℕ
@@ -18,7 +18,7 @@ pub record LastCall (j : Judge) (input : Buffers) (out written : List ℕ) : Typ
   pub call : Finishes j input out told told' at
   pub all : written ≡ take at told'
 
--- a call of `judge_read` on s, and the calls after it: `written` is what they told
+-- a call of `Judge::read` on s, and the calls after it: `written` is what they told
 pub record NextCall (s : List ℕ) (Calls : Judge → Buffers → List ℕ → List ℕ → Type 0) (j : Judge) (input : Buffers) (out written : List ℕ) : Type 0 where
   pub told : List ℕ
   pub turned : Turned

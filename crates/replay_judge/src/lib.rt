@@ -9,17 +9,20 @@ ghost use Rattle.text_fields.specs.Fields.{Free};
 ghost use Rattle.base_places.specs.Lengths.{told_bytes};
 ghost use Rattle.replay_days.specs.Judged.{judged};
 ghost use Rattle.replay_days.specs.Going.{finish};
-ghost use Rattle.replay_judge.specs.Carried.{buffers_of, differing_after, next_day, next_line};
+ghost use Rattle.replay_judge.specs.Carried.{buffers, buffers_of, differing_after, next_day, next_line};
 ghost use Rattle.replay_judge.specs.Stands.{Begins, EndsComparing, EndsDay, EndsInput, EndsLine, FeedsInput, Finishes, GoesOn, Portion, Read, Tells, TurnsTo, turned};
 
-use base_places::{LONGEST_OUTPUT, PORTION, TOLD, one_more};
+use base_places::{
+    BODY_WIDTH, FLOATS_WIDTH, LONGEST_OUTPUT, MOST_IN_LINE, NUMBERS_WIDTH, PORTION, PROGRAM_BODIES,
+    PROGRAM_CONTACTS, PROGRAM_STEPS, STEP_WIDTH, TOLD, one_more,
+};
 use replay_compare::{
     LineSoFar, Spot, compare_run, end_number, holds_only, longer, met, next_byte, tell,
     tell_verdict,
 };
 use text_digits::Page;
 use text_fields::run_end;
-use text_program::{NightBuffers, answer_read, front};
+use text_program::{NightBuffers, front};
 use text_read::Reader;
 
 // A day's input so far: the reader of it, and whether a line of it has ended. A line that holds only D so far is not fed to
@@ -73,7 +76,7 @@ fn end_input(
 {
     if holds_only(line, b'D') {
         let k = input.end(f.reader);
-        let len = answer_read(k, input, out);
+        let len = input.answer(k, out);
         Part::Comparing(Spot {
             len,
             start: 0,
@@ -278,22 +281,6 @@ fn judge_portion(
     Turned { judge, at: page.at }
 }
 
-// A portion of a file, of which n bytes were read: what it tells stands at the front of `told`, which has room for all. That
-// hangs on the array's length: of a slice it would have to be asked.
-pub fn judge_read(
-    j: Judge,
-    portion: &[u8; PORTION],
-    n: usize,
-    input: &mut NightBuffers,
-    out: &mut [u8; LONGEST_OUTPUT],
-    told: &mut [u8; TOLD],
-) -> Turned
-    ensures read { Read j (buffers_of input.old) out.old told.old (take n portion.now) result (buffers_of input.new) out.new told.new }
-    ensures at_le_told_bytes { result.at ≤ told_bytes }
-{
-    judge_portion(j, front(portion, n), input, out, told)
-}
-
 // The end of a file after whole lines.
 fn end_day(j: Judge, page: &mut Page)
     requires { page.old.at ≤ length page.old.out.now }
@@ -341,17 +328,92 @@ fn tell_end(
     page.at
 }
 
-// The end of a file that came in portions: what it tells stands at the front of `told`, which has room for all.
+impl Judge {
+    // A portion of a file, of which n bytes were read: what it tells stands at the front of `told`, which has room for all. That
+    // hangs on the array's length: of a slice it would have to be asked.
+    pub fn read(
+        self,
+        portion: &[u8; PORTION],
+        n: usize,
+        input: &mut NightBuffers,
+        out: &mut [u8; LONGEST_OUTPUT],
+        told: &mut [u8; TOLD],
+    ) -> Turned
+        ensures read { Read self (buffers_of input.old) out.old told.old (take n portion.now) result (buffers_of input.new) out.new told.new }
+        ensures at_le_told_bytes { result.at ≤ told_bytes }
+    {
+        judge_portion(self, front(portion, n), input, out, told)
+    }
+
+    // The end of a file that came in portions: what it tells stands at the front of `told`, which has room for all.
+    pub fn end(
+        self,
+        input: &mut NightBuffers,
+        out: &mut [u8; LONGEST_OUTPUT],
+        told: &mut [u8; TOLD],
+    ) -> usize
+        ensures finishes { Finishes self (buffers_of input.old) out.old told.old told.new result }
+        ensures upper_bound { result ≤ told_bytes }
+    {
+        tell_end(self, input, out, told, 0)
+    }
+}
+
+// As `Judge::read`, for who holds the line and the tables apart: they are laid together, and what is left goes back.
+pub fn judge_read(
+    j: Judge,
+    portion: &[u8; PORTION],
+    n: usize,
+    held: &mut [u8; MOST_IN_LINE],
+    bodies: &mut [u32; PROGRAM_BODIES * BODY_WIDTH],
+    numbers: &mut [u16; PROGRAM_CONTACTS * NUMBERS_WIDTH],
+    floats: &mut [u32; PROGRAM_CONTACTS * FLOATS_WIDTH],
+    steps: &mut [u16; PROGRAM_STEPS * STEP_WIDTH],
+    out: &mut [u8; LONGEST_OUTPUT],
+    told: &mut [u8; TOLD],
+) -> Turned
+    ensures read { Read j (buffers held.old bodies.old numbers.old floats.old steps.old) out.old told.old (take n portion.now) result
+        (buffers held.new bodies.new numbers.new floats.new steps.new) out.new told.new }
+    ensures at_le_told_bytes { result.at ≤ told_bytes }
+{
+    let mut input = NightBuffers {
+        line: *held,
+        bodies: *bodies,
+        numbers: *numbers,
+        floats: *floats,
+        steps: *steps,
+    };
+    let turned = j.read(portion, n, &mut input, out, told);
+    *held = input.line;
+    *bodies = input.bodies;
+    *numbers = input.numbers;
+    *floats = input.floats;
+    *steps = input.steps;
+    turned
+}
+
+// As `Judge::end`, in the same way. (The tables are left as they came: nobody is told what they hold then.)
 pub fn judge_end(
     j: Judge,
-    input: &mut NightBuffers,
+    held: &mut [u8; MOST_IN_LINE],
+    bodies: &mut [u32; PROGRAM_BODIES * BODY_WIDTH],
+    numbers: &mut [u16; PROGRAM_CONTACTS * NUMBERS_WIDTH],
+    floats: &mut [u32; PROGRAM_CONTACTS * FLOATS_WIDTH],
+    steps: &mut [u16; PROGRAM_STEPS * STEP_WIDTH],
     out: &mut [u8; LONGEST_OUTPUT],
     told: &mut [u8; TOLD],
 ) -> usize
-    ensures finishes { Finishes j (buffers_of input.old) out.old told.old told.new result }
+    ensures finishes { Finishes j (buffers held.old bodies.old numbers.old floats.old steps.old) out.old told.old told.new result }
     ensures upper_bound { result ≤ told_bytes }
 {
-    tell_end(j, input, out, told, 0)
+    let mut input = NightBuffers {
+        line: *held,
+        bodies: *bodies,
+        numbers: *numbers,
+        floats: *floats,
+        steps: *steps,
+    };
+    j.end(&mut input, out, told)
 }
 
 // A whole file in one piece: what is written of it, as far as there is room.

@@ -12,7 +12,7 @@ ghost use Rattle.sheet.specs.Once.{AnsweredOnce, ReadOnce, onward};
 use base_places::{LONGEST_OUTPUT, PORTION};
 use std::fmt;
 use std::io::{Read, Write};
-use text_program::{MOST_PORTIONS, NightBuffers, answer_read, front};
+use text_program::{MOST_PORTIONS, NightBuffers, front};
 use text_read::Reader;
 
 // Why a run ended before the answer was written. The replay has a type of its own: one for both would need both programs' words.
@@ -71,7 +71,7 @@ fn answer(k: Reader, night: &mut NightBuffers, out: &mut [u8; LONGEST_OUTPUT]) -
     ensures fits { result ≤ length out.new }
 {
     let reader = night.end(k);
-    answer_read(reader, night, out)
+    night.answer(reader, out)
 }
 
 // Portion after portion, each turn with what the one before left; then the end. The loop never comes to its last turn: a

@@ -3,6 +3,7 @@
 #![tactic(auto)]
 
 ghost use Rattle.std.specs.Prelude.{◌≡◌};
+ghost use Rattle.step_rules.specs.Numbered.{numbered_answer, numbered_branch};
 ghost use Rattle.step_rules.specs.Step.{answer, branch, outcome_of};
 
 use base_refusals::Refusal;
@@ -10,6 +11,36 @@ use step_kinds::ContactSolved;
 
 // Done: the branch, the new contact and the new velocities; or refused.
 pub type Outcome = Result<ContactSolved, Refusal>;
+
+// An outcome by its numbers alone, which may be any: that of a refusal, or that of a branch. For who has no `Refusal` and no
+// `Branch` to name them by.
+#[derive(Clone, Copy, PartialEq, Eq)]
+pub enum Numbered {
+    Refused(u16),
+    Done(u16),
+}
+
+impl Numbered {
+    // The number of the refusal; 0 is success.
+    pub fn answer(self) -> u16
+        ensures { result ≡ numbered_answer self }
+    {
+        match self {
+            Numbered::Refused(number) => number,
+            Numbered::Done(_) => 0,
+        }
+    }
+
+    // How a pair was solved; 0 for a refusal and for every other kind.
+    pub fn branch(self) -> u16
+        ensures { result ≡ numbered_branch self }
+    {
+        match self {
+            Numbered::Refused(_) => 0,
+            Numbered::Done(branch) => branch,
+        }
+    }
+}
 
 // The number of the refusal; 0 is success.
 pub fn answer(outcome: Outcome) -> u16

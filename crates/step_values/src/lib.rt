@@ -4,7 +4,8 @@
 // one after the other. They read; nothing here changes a contact.
 #![tactic(auto)]
 
-ghost use Rattle.std.specs.Prelude.{◌≡◌, ◌&&◌, ltb};
+ghost use Rattle.std.specs.Prelude.{◌≡◌, ◌&&◌, Option, ltb};
+ghost use Rattle.elem_impulse.specs.declared.Branch.{Branch};
 ghost use Rattle.step_values.specs.Values.{below_count, finite_head, finite_normal, finite_point};
 ghost use Rattle.step_values.specs.Values.{finite_tangent, finite_vel, floor_moves, head_out};
 ghost use Rattle.step_values.specs.Values.{lost_cell, lost_impulse, lost_vel, not_finite, not_finite_vels, out_of_range, point_out, unwritable};
@@ -15,7 +16,7 @@ use elem_normal::ContactConstraintNormalPart;
 use elem_tangent::ContactConstraintTangentPart;
 use elem_velocity::{SolverVel, Vels};
 use step_contact::{Contact, ContactHead, ContactPoint, FLOOR};
-use step_kinds::{ContactSolved, stores};
+use step_kinds::stores;
 
 // Whether a test holds at a point below count, given whether it holds at a and at b.
 #[tactic(auto, unfolding(crate::specs::Values::below_count))]
@@ -189,13 +190,13 @@ fn lost_vel(body: u16, v: SolverVel) -> bool
     body != FLOOR && !finite_vel(v)
 }
 
-// 10: what the routine made cannot be written.
+// 10: what the routine made cannot be written, whatever branch it took.
 #[tactic(auto, unfolding(crate::specs::Values::unwritable, crate::specs::Values::below_count))]
-pub fn unwritable(kind: u16, solved: ContactSolved) -> bool
-    ensures { result ≡ unwritable kind solved }
+pub fn unwritable(kind: u16, contact: Contact, vels: Vels) -> bool
+    ensures { (branch : Option Branch) → result ≡ unwritable kind (record { branch = branch; contact = contact; vels = vels }) }
 {
-    let Contact { head, a, b } = solved.contact;
-    let Vels { v1, v2 } = solved.vels;
+    let Contact { head, a, b } = contact;
+    let Vels { v1, v2 } = vels;
     lost_vel(head.body1, v1)
         || lost_vel(head.body2, v2)
         || lost_at(kind, 0, head.count, a)

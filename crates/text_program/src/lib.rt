@@ -86,6 +86,21 @@ impl NightBuffers {
         };
         text_read::end(k, &self.line, &mut tables)
     }
+
+    // The answer to what the reader carries, as `answer_read` gives it.
+    pub fn answer(&mut self, k: Reader, out: &mut [u8; LONGEST_OUTPUT]) -> usize
+        ensures answered { AnsweredRead k (cells_of self.old) out.old out.new result }
+        ensures kept { KeptNumbers self.old self.new }
+    {
+        answer_read(
+            k,
+            &mut self.bodies,
+            &self.numbers,
+            &mut self.floats,
+            &self.steps,
+            out,
+        )
+    }
 }
 
 // The answer to a night, from the program's tables, filled as far as the state says. They come as slices: a part of an array
@@ -120,20 +135,22 @@ fn answer_state(
     answer_night(&mut read, &mut room, page);
 }
 
-// What is written of what a reader carries: the answer to what was read, or the bad line.
-fn write_read(k: Reader, night: &mut NightBuffers, page: &mut Page)
-    ensures written { Writes page.old (output_of (text_in k [] (cells_of night.old))) page.new }
-    ensures kept { KeptNumbers night.old night.new }
+// What is written of what a reader carries: the answer to what was read, or the bad line. The tables come one by one, here and
+// below: who calls may hold them apart, and two of them are only read.
+fn write_read(
+    k: Reader,
+    bodies: &mut [u32; PROGRAM_BODIES * BODY_WIDTH],
+    numbers: &[u16; PROGRAM_CONTACTS * NUMBERS_WIDTH],
+    floats: &mut [u32; PROGRAM_CONTACTS * FLOATS_WIDTH],
+    steps: &[u16; PROGRAM_STEPS * STEP_WIDTH],
+    page: &mut Page,
+)
+    ensures { Writes page.old
+        (output_of (text_in k [] (cells bodies.old numbers.now floats.old steps.now)))
+        page.new }
 {
     match k.bad {
         None => {
-            let NightBuffers {
-                bodies,
-                numbers,
-                floats,
-                steps,
-                ..
-            } = night;
             let st = within(k.st, ROOM);
             answer_state(st, bodies, numbers, floats, steps, page);
         }
@@ -142,12 +159,19 @@ fn write_read(k: Reader, night: &mut NightBuffers, page: &mut Page)
 }
 
 // The same from a buffer's front on; how many bytes that are is told.
-pub fn answer_read(k: Reader, night: &mut NightBuffers, out: &mut [u8; LONGEST_OUTPUT]) -> usize
-    ensures answered { AnsweredRead k (cells_of night.old) out.old out.new result }
-    ensures kept { KeptNumbers night.old night.new }
+pub fn answer_read(
+    k: Reader,
+    bodies: &mut [u32; PROGRAM_BODIES * BODY_WIDTH],
+    numbers: &[u16; PROGRAM_CONTACTS * NUMBERS_WIDTH],
+    floats: &mut [u32; PROGRAM_CONTACTS * FLOATS_WIDTH],
+    steps: &[u16; PROGRAM_STEPS * STEP_WIDTH],
+    out: &mut [u8; LONGEST_OUTPUT],
+) -> usize
+    ensures { AnsweredRead k (cells bodies.old numbers.now floats.old steps.now)
+        out.old out.new result }
 {
     let mut page = Page { out, at: 0 };
-    write_read(k, night, &mut page);
+    write_read(k, bodies, numbers, floats, steps, &mut page);
     page.at
 }
 
@@ -163,7 +187,7 @@ pub fn answer_text(input: &[u8], out: &mut [u8; LONGEST_OUTPUT]) -> usize
         steps: &mut night.steps,
     };
     let k = read_text(input, &mut tables);
-    answer_read(k, &mut night, out)
+    night.answer(k, out)
 }
 
 // The first n bytes; all of them where n is past the end.

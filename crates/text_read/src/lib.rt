@@ -2,16 +2,16 @@
 // the bytes of the line that has not ended.
 #![tactic(auto)]
 
-ghost use Rattle.std.specs.Prelude.{◌≡◌, ◌∷◌, [], ◌++◌, ◌≤◌, ◌<◌, length};
+ghost use Rattle.std.specs.Prelude.{◌≡◌, ◌∷◌, [], ◌++◌, ◌+◌, ◌≤◌, ◌<◌, length};
 ghost use Rattle.text_fields.specs.Fields.{Free};
 ghost use Rattle.base_places.specs.Lengths.{most_in_line};
-ghost use Rattle.text_line.specs.Filled.{SameTables, lent_cells, reason_number};
+ghost use Rattle.text_line.specs.Filled.{Appended, SameTables, lent_cells, reason_number};
 ghost use Rattle.text_read.specs.Carried.{Ends, ReadWhole, Takes, fresh, settled_in};
 ghost use Rattle.text_read.specs.Handed.{Closes, Fed, GoesOn, Sound, Turned, after_line, closed_reader, refused_for, settled};
 
 use base_places::{MOST_IN_LINE, one_more};
 use text_fields::{Counts, run_end};
-use text_line::{BadLine, Place, State, Tables, append, in_contact, read_line};
+use text_line::{BadLine, Place, State, Tables, in_contact, read_line};
 
 // What ends a line.
 const LINE_END: u8 = 10;
@@ -85,6 +85,20 @@ fn after_line(k: Reader, read: Result<State, BadLine>) -> Reader
     }
 }
 
+// A run's bytes, held after the first `at` of a line; and how far it is held then. (Byte by byte: `append`, which copies in one go,
+// has the archive for hosts call memmove here, a name that their linker may not have.)
+fn hold(line: &mut [u8], at: usize, run: &[u8]) -> usize
+    requires { at + length run.now ≤ length line.old }
+    ensures { Appended line.old at run.now line.new result }
+{
+    let mut end = at;
+    for b in run {
+        line[end] = *b;
+        end += 1;
+    }
+    end
+}
+
 // The line goes on with a run of bytes, and does not end: no table is looked at, so what is said holds of any. (The line's
 // bytes come as a slice, here and below: a part of an array behind a reference can't be lent.)
 fn go_on(k: Reader, run: &[u8], line: &mut [u8]) -> Reader
@@ -94,7 +108,7 @@ fn go_on(k: Reader, run: &[u8], line: &mut [u8]) -> Reader
     if MOST_IN_LINE - k.len < run.len() {
         return refuse(k, BadLine::TooLong);
     }
-    let len = append(line, k.len, run);
+    let len = hold(line, k.len, run);
     Reader { len, ..k }
 }
 
@@ -110,7 +124,7 @@ fn end_line(k: Reader, run: &[u8], line: &mut [u8], tables: &mut Tables<'_>) -> 
     if k.len == 0 {
         return after_line(k, read_line(k.st, run, tables));
     }
-    let all = append(&mut *line, k.len, run);
+    let all = hold(&mut *line, k.len, run);
     after_line(k, read_line(k.st, &line[..all], tables))
 }
 

@@ -2,12 +2,19 @@
 // as the bits that are printed.
 #![tactic(auto)]
 
-ghost use Rattle.std.specs.Prelude.{[], ◌∷◌, ◌++◌, ◌≤◌, length};
+ghost use Rattle.std.specs.Prelude.{[], ◌∷◌, ◌++◌, ◌≡◌, ◌≤◌, length, min};
 ghost use Rattle.text_digits.specs.Digits.{dec_field, hex_field};
 ghost use Rattle.text_digits.specs.Wrote.{Writes};
 ghost use Rattle.text_write.specs.Lines.{e_line, joined, line, r_line, x_line};
 
 use text_digits::Page;
+
+// Where writing starts: at `at`, or at the buffer's end.
+pub fn start(out: &[u8], at: usize) -> usize
+    ensures { result ≡ min (length out.now) at }
+{
+    at.min(out.len())
+}
 
 // A field for each number.
 fn dec_fields(page: &mut Page, numbers: &[u16])

@@ -4,7 +4,11 @@ use Rattle.step_rules.proofs.Chain.{good}
 use Rattle.plain_step.proofs.worked.Goals as goal
 
 pub returns-then-unwritable : goal.returns-then-unwritable
-returns-then-unwritable c = search lost
+returns-then-unwritable c =
+    let told = c.unwritable.ensures c.routine-solved.result.branch in
+    search (lost, told)
 
 pub returns : goal.returns
-returns c = search good
+returns c =
+    let told = c.unwritable.ensures c.routine-solved.result.branch in
+    search (good, told)

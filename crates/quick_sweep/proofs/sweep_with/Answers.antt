@@ -1,5 +1,4 @@
 -- `quick_sweep::sweep_with` meets its contract. At first no flag is up. Assumes nothing.
-use native.Mathlib.Omega.{arith}
 use Rattle.quick_sweep.proofs.Flags.{none_up}
 use Rattle.quick_sweep.proofs.sweep_with.Goals as goal
 

@@ -1,5 +1,6 @@
 -- `quick_sweep::walk` meets its contract. After i steps the tables, the room and the count are those of the first i steps, and the flags are right. Assumes nothing.
-use Rattle.quick_sweep.proofs.SoFar.{at_start, count_fits, go_on, gone}
+use Rattle.std.proofs.Common.{rules}
+use Rattle.quick_sweep.proofs.SoFar.{at_start, count_fits, go_on, gone_near}
 use Rattle.quick_sweep.proofs.walk.Goals as goal
 
 pub loop-i-init : goal.loop-i-init
@@ -11,5 +12,7 @@ overflow_add-refused c = search count_fits
 pub loop-i-preserved : goal.loop-i-preserved
 loop-i-preserved c = search go_on
 
-pub returns : goal.returns
-returns c = search gone
+pub returns-clause-swept : goal.returns-clause-swept
+returns-clause-swept c =
+    let at_end = c.loop-i.invariant in
+    gone_near _ _ _ _ _ _ c.steps_among-last.ensures (search rules) (search rules) at_end.0 (search rules) at_end.1.numbers (search rules)

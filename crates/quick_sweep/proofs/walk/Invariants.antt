@@ -5,4 +5,4 @@ use Rattle.quick_sweep.proofs.walk.Given as goal
 
 abbrev pub invariant-loop-i : goal.invariant-loop-i
 invariant-loop-i l =
-    SoFar l.steps (tables_of l.initial.lent) l.initial.room (tables_of l.lent) l.room l.flags l.i l.refused × StillLent l.initial.lent l.lent
+    SoFar l.steps (tables_of l.initial.near) l.initial.room (tables_of l.near) l.room l.flags l.i l.refused × StillLent l.initial.near l.near

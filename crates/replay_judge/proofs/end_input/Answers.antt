@@ -5,7 +5,7 @@ use Rattle.replay_judge.proofs.end_input.Goals as goal
 
 pub returns-then-holds_only : goal.returns-then-holds_only
 returns-then-holds_only c =
-    at_d _ _ _ _ _ c.holds_only.ensures c.if-holds_only.true c.end-k.ensures.room c.end-k.ensures.ends c.answer_read-len.ensures.answered
+    at_d _ _ _ _ _ c.holds_only.ensures c.if-holds_only.true c.end-k.ensures.room c.end-k.ensures.ends c.answer-len.ensures.answered
 
 pub returns-else-holds_only : goal.returns-else-holds_only
 returns-else-holds_only c = search one_line_more

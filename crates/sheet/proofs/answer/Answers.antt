@@ -3,4 +3,4 @@ use Rattle.sheet.proofs.Handed.{ended_well}
 use Rattle.sheet.proofs.answer.Goals as goal
 
 pub returns-clause-once : goal.returns-clause-once
-returns-clause-once c = ended_well c.end-reader.ensures.room c.end-reader.ensures.ends c.answer_read.ensures.answered
+returns-clause-once c = ended_well c.end-reader.ensures.room c.end-reader.ensures.ends c.answer.ensures.answered

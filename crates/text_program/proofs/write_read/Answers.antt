@@ -4,11 +4,11 @@ use Rattle.text_program.proofs.Whole.{bad_written, fine_written, program_room}
 use borrow.Author.Rules.{rules}
 use Rattle.text_program.proofs.write_read.Goals as goal
 
-pub returns-in-None-clause-written : goal.returns-in-None-clause-written
+pub returns-in-None : goal.returns-in-None
 unfolding of_program
-returns-in-None-clause-written c =
+returns-in-None c =
     fine_written _ _ (search rules) (program_room _ _ _ _ (search rules) (search rules) (search rules) (search rules))
     c.within-st.ensures c.answer_state.ensures
 
-pub returns-in-Some-clause-written : goal.returns-in-Some-clause-written
-returns-in-Some-clause-written c = search (bad_written, rules)
+pub returns-in-Some : goal.returns-in-Some
+returns-in-Some c = search (bad_written, rules)

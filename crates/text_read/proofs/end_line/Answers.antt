@@ -11,4 +11,4 @@ returns-then-k-eq0-clause-fed c = search end_from
 
 pub returns-clause-fed : goal.returns-clause-fed
 returns-clause-fed c =
-    end_held _ _ _ c.requires.0 _ c.requires.1 c.requires.2 (omega arith) c.append-all.ensures c.read_line-2.ensures.read c.after_line-2.ensures
+    end_held _ _ _ c.requires.0 _ c.requires.1 c.requires.2 (omega arith) c.hold-all.ensures c.read_line-2.ensures.read c.after_line-2.ensures

@@ -1,7 +1,7 @@
--- `replay_judge::judge_end` meets its contract. The buffer has room for what the end tells. Assumes nothing.
+-- `replay_judge::Judge::end` meets its contract. The buffer has room for what the end tells. Assumes nothing.
 use Rattle.replay_judge.proofs.Finished.{finishes}
 use borrow.Author.Rules.{rules}
-use Rattle.replay_judge.proofs.judge_end.Goals as goal
+use Rattle.replay_judge.proofs.Judge.end.Goals as goal
 
 pub returns : goal.returns
 returns c =
