@@ -12,8 +12,8 @@ use lib.ListN.{drop, drop_of_length-le, get_or, length, take}
 use lib.Seq.{drop-cons, length-take-le}
 use Rattle.base_places.specs.Lengths.{longest_output, one_more}
 use Rattle.base_words.proofs.Pick.{never}
-use Rattle.replay_days.specs.Judged.{lines_from, verdict}
-use Rattle.replay_days.specs.Going.{ending, meets, rest_of}
+use Rattle.replay_days.specs.Judged.{lines_from}
+use Rattle.replay_days.specs.Going.{counted_verdict, ending, meets, rest_of}
 use Rattle.replay_compare.specs.Spots.{compared_to, end_number, met_at, met_by, met_from, next_of, placed, shape_of}
 use Rattle.replay_compare.specs.Meets.{Meets}
 use Rattle.replay_compare.specs.declared.LineSoFar.{LineSoFar}
@@ -167,28 +167,28 @@ module _ (p : Spot) (buffer line : List ℕ) (left : List (List ℕ)) (n : ℕ) 
 -- a text that is not empty has a line
 module _ (day n : ℕ) where
   ends_here : (line : List ℕ) (c : ℕ) (s : List ℕ) (ten : Bool) → eqb c 10 ≡ ten
-      → ending day (lines_from (line ++ (c ∷ [])) s) n ≡ verdict day (Some n)
-      → ending day (lines_from line (c ∷ s)) n ≡ verdict day (Some n)
+      → ending day (lines_from (line ++ (c ∷ [])) s) n ≡ counted_verdict day (Some n)
+      → ending day (lines_from line (c ∷ s)) n ≡ counted_verdict day (Some n)
   unfolding lines_from ending
   ends_here line c s true e on = rw e
   ends_here line c s false e on = rw e on
 
-  line_left : (s line : List ℕ) → eqb (length line) 0 ≡ false → ending day (lines_from line s) n ≡ verdict day (Some n)
+  line_left : (s line : List ℕ) → eqb (length line) 0 ≡ false → ending day (lines_from line s) n ≡ counted_verdict day (Some n)
   unfolding lines_from ending
   line_left [] line e = rw e
   line_left (c ∷ s) line e =
       ends_here line c s (eqb c 10) refl (line_left s (line ++ (c ∷ [])) (some line c []))
 
-  bytes_left : (c : ℕ) (s : List ℕ) → ending day (lines_from [] (c ∷ s)) n ≡ verdict day (Some n)
+  bytes_left : (c : ℕ) (s : List ℕ) → ending day (lines_from [] (c ∷ s)) n ≡ counted_verdict day (Some n)
   bytes_left c s = ends_here [] c s (eqb c 10) refl (line_left s (c ∷ []) refl)
 
-none_at_all : (day n : ℕ) → verdict day None ≡ ending day (lines_from [] []) n
+none_at_all : (day n : ℕ) → counted_verdict day None ≡ ending day (lines_from [] []) n
 unfolding lines_from ending
 none_at_all day n = refl
 
 -- the end of the recorded output
 module _ (p : Spot) (buffer line : List ℕ) (left : List (List ℕ)) (n day : ℕ) (m : Meets p buffer line left n) where
-  ending_by : (more : Bool) → ltb p.start p.len ≡ more → verdict day (end_number p) ≡ ending day left n
+  ending_by : (more : Bool) → ltb p.start p.len ≡ more → counted_verdict day (end_number p) ≡ ending day left n
   ending_by true e =
       let l : length (take p.len buffer) ≡ p.len = length-take-le p.len buffer m.len in
       rw (e, ← m.start, begins (take p.len buffer) p.start (rw l e), bytes_left day n, m.number)
@@ -196,5 +196,5 @@ module _ (p : Spot) (buffer line : List ℕ) (left : List (List ℕ)) (n day : �
       let l : length (take p.len buffer) ≡ p.len = length-take-le p.len buffer m.len in
       rw (e, ← m.start, ended (take p.len buffer) p.start (rw l e)) (none_at_all day n)
 
-  pub end_beside : verdict day (end_number p) ≡ ending day left n
+  pub end_beside : counted_verdict day (end_number p) ≡ ending day left n
   end_beside = ending_by (ltb p.start p.len) refl

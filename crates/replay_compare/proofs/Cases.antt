@@ -11,7 +11,8 @@ use Rattle.text_digits.specs.Wrote.{Writes}
 use Rattle.text_digits.proofs.Then.{onward}
 use Rattle.text_write.specs.Lines.{joined}
 use Rattle.text_write.proofs.Fields.{all_of_them}
-use Rattle.replay_days.specs.Judged.{day_line, verdict}
+use Rattle.replay_days.specs.Judged.{day_line}
+use Rattle.replay_days.specs.Going.{counted_verdict}
 
 -- the day's number, its fields, and byte 10
 pub day_written : {p q r s : Page} (day : ℕ) (fields : List ℕ) (i : ℕ) → Writes p (dec_bytes day) q → length fields ≤ i
@@ -30,15 +31,15 @@ unfolding joined
 two_fields day m n v = rw append-nil at v
 
 -- no line differs; one does
-pub none_told : {p q : Page} (day : ℕ) (d : Option ℕ) {n : ℕ} → n ≡ unwrap_or d 0 → n ≡ 0 → Writes p (day_line day (dec_field 0)) q → Writes p (verdict day d) q
-unfolding verdict
+pub none_told : {p q : Page} (day : ℕ) (d : Option ℕ) {n : ℕ} → n ≡ unwrap_or d 0 → n ≡ 0 → Writes p (day_line day (dec_field 0)) q → Writes p (counted_verdict day d) q
+unfolding counted_verdict
 none_told day None e z v = v
 none_told day (Some zero) e z v = v
 none_told day (Some (suc m)) e z v = absurd (suc-ne-zero _ (sym e ∙ z))
 
 pub line_told : {p q : Page} (day : ℕ) (d : Option ℕ) {n : ℕ} → n ≡ unwrap_or d 0 → n ≢ 0 → Writes p (day_line day (joined dec_field (1 ∷ n ∷ []))) q
-    → Writes p (verdict day d) q
-unfolding verdict
+    → Writes p (counted_verdict day d) q
+unfolding counted_verdict
 line_told day None e ne v = absurd (ne e)
 line_told day (Some zero) e ne v = absurd (ne e)
 line_told day (Some (suc m)) e ne v = two_fields day 1 (suc m) (rw e at v)

@@ -7,6 +7,7 @@ ghost use Rattle.text_digits.specs.Digits.{dec_field};
 ghost use Rattle.text_digits.specs.Wrote.{Writes};
 ghost use Rattle.text_write.specs.Lines.{joined};
 ghost use Rattle.replay_days.specs.Judged.{day_line, verdict};
+ghost use Rattle.replay_days.specs.Going.{counted_verdict};
 ghost use Rattle.replay_compare.specs.Spots.{compared_all, compared_to, end_number, holds_only, longer_by, met_by, next_of};
 
 use text_digits::Page;
@@ -113,9 +114,20 @@ pub fn tell(page: &mut Page, day: usize, second: u64)
     day_line(page, day, &[second]);
 }
 
-// The same, or the first differing line. Lines are counted from 1: a line 0 is none.
+// The same, or the first differing line, whatever its number.
+#[tactic(auto, unfolding(replay_days::specs::Judged::verdict))]
 pub fn tell_verdict(page: &mut Page, day: usize, differing: Option<usize>)
     ensures { Writes page.old (verdict day differing) page.new }
+{
+    match differing {
+        None => tell(page, day, 0),
+        Some(n) => day_line(page, day, &[1, n as u64]),
+    }
+}
+
+// The same, or the first differing line. Lines are counted from 1: a line 0 is none.
+pub fn tell_counted_verdict(page: &mut Page, day: usize, differing: Option<usize>)
+    ensures { Writes page.old (counted_verdict day differing) page.new }
 {
     let n = differing.unwrap_or(0);
     if n == 0 {
@@ -130,4 +142,24 @@ pub fn end_number(p: Spot) -> Option<usize>
     ensures { result ≡ end_number p }
 {
     (p.start < p.len).then_some(p.number)
+}
+
+#[cfg(test)]
+mod tests {
+    use super::*;
+
+    // What is told of day 7, line after line; a line 0 among them, which no run comes to.
+    #[test]
+    fn tells_of_any_line(rt: HostRuntime) {
+        let mut out = [0u8; 20];
+        let mut page = Page {
+            out: &mut out,
+            at: 0,
+        };
+        tell_verdict(&mut page, 7, None);
+        tell_verdict(&mut page, 7, Some(0));
+        tell_verdict(&mut page, 7, Some(3));
+        tell_counted_verdict(&mut page, 7, Some(0));
+        assert_eq!(rt; out, *b"7\t0\n7\t1\t0\n7\t1\t3\n7\t0\n");
+    }
 }

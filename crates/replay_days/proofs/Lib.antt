@@ -1,3 +1,4 @@
+pub mod Counted
 pub mod Online
 pub mod Bytes
 pub mod Portions

@@ -1,14 +1,16 @@
 -- Line after line: keeping the output's lines that have not been met, and telling a day as soon as it is known, comes to what `judged` says.
 -- Assumes nothing.
 use Prim.Native.Nat.{ℕ, ◌+◌}
+use native.Mathlib.Omega.{arith}
 use mathlib.Core.Bool.{Bool, true, false}
 use mathlib.Core.List.{List, [], ◌∷◌, ◌++◌, append_assoc, append-nil}
 use mathlib.Core.Path.{◌≡◌, refl, sym, ◌∙◌, ap, ap₂}
 use Rattle.std.specs.Prelude.{Some}
 use Rattle.base_words.proofs.Pick.{never}
 use Rattle.text_output.specs.Output.{output}
-use Rattle.replay_days.specs.Judged.{compared, first_differing, input_of, judged_from, lines_of, only_d, only_z, record_of, verdict}
-use Rattle.replay_days.specs.Going.{Part, comparing, day_after, differing, end_tells, ending, line_tells, meets, part_after, reading, rest_of}
+use Rattle.replay_days.specs.Judged.{compared, first_differing, input_of, judged_from, lines_of, only_d, only_z, record_of}
+use Rattle.replay_days.proofs.Counted.{counted}
+use Rattle.replay_days.specs.Going.{Part, comparing, counted_verdict, day_after, differing, end_tells, ending, line_tells, meets, part_after, reading, rest_of}
 
 -- what is told of the lines that follow
 unfoldable pub tells_lines : ℕ → Part → List (List ℕ) → List ℕ
@@ -29,18 +31,18 @@ record Agree (ls : List (List ℕ)) : Type 0 where
   recorded : (day : ℕ) (x : List ℕ) (r left : List (List ℕ)) (n : ℕ) → Left x r left n
       → judged_from day (record_of x r) ls ≡ tells_lines day (comparing left n) ls
   differs : (day : ℕ) (x : List ℕ) (r : List (List ℕ)) (n : ℕ) → Differs x r n
-      → judged_from day (record_of x r) ls ≡ verdict day (Some n) ++ tells_lines day differing ls
+      → judged_from day (record_of x r) ls ≡ counted_verdict day (Some n) ++ tells_lines day differing ls
 
 -- where the recorded output ends
 module _ (day : ℕ) (x : List ℕ) (r : List (List ℕ)) (n : ℕ) where
   ended : (left : List (List ℕ)) → Left x r left n → compared day x r ≡ ending day left n
   unfolding compared ending first_differing
-  ended [] at = ap (verdict day) (ap (first_differing 1 (lines_of (output x))) (sym (append-nil r)) ∙ at [])
-  ended (m ∷ left) at = ap (verdict day) (ap (first_differing 1 (lines_of (output x))) (sym (append-nil r)) ∙ at [])
+  ended [] at = counted day _ _ 1 (omega arith) ∙ ap (counted_verdict day) (ap (first_differing 1 (lines_of (output x))) (sym (append-nil r)) ∙ at [])
+  ended (m ∷ left) at = counted day _ _ 1 (omega arith) ∙ ap (counted_verdict day) (ap (first_differing 1 (lines_of (output x))) (sym (append-nil r)) ∙ at [])
 
-  ended_off : Differs x r n → compared day x r ≡ verdict day (Some n)
+  ended_off : Differs x r n → compared day x r ≡ counted_verdict day (Some n)
   unfolding compared
-  ended_off off = ap (verdict day) (ap (first_differing 1 (lines_of (output x))) (sym (append-nil r)) ∙ off [])
+  ended_off off = counted day _ _ 1 (omega arith) ∙ ap (counted_verdict day) (ap (first_differing 1 (lines_of (output x))) (sym (append-nil r)) ∙ off [])
 
 -- one recorded line more
 module _ (x : List ℕ) (r : List (List ℕ)) (n : ℕ) (l : List ℕ) where
@@ -72,7 +74,7 @@ module _ (l : List ℕ) (ls : List (List ℕ)) (on : Agree ls) (day : ℕ) (x : 
     recorded_by left at false false e f = rw (e, f) (on.differs day x (r ++ (l ∷ [])) n (differs_here x r n l left at f))
 
     differs_by : Differs x r n → (z : Bool) → only_z l ≡ z
-        → judged_from day (record_of x r) (l ∷ ls) ≡ verdict day (Some n) ++ tells_lines day differing (l ∷ ls)
+        → judged_from day (record_of x r) (l ∷ ls) ≡ counted_verdict day (Some n) ++ tells_lines day differing (l ∷ ls)
     unfolding judged_from tells_lines line_tells day_after part_after
     differs_by off true e = rw e (ap₂ ◌++◌ (ended_off day x r n off) (on.input (day + 1) []))
     differs_by off false e = rw e (on.differs day x (r ++ (l ∷ [])) n (differs_on x r n l off))

@@ -11,12 +11,13 @@ use Rattle.std.specs.Prelude.{Option, None, Some}
 use Rattle.text_digits.specs.Digits.{dec_bytes, dec_field}
 use Rattle.text_digits.proofs.Lengths.{dec_field_lem}
 use Rattle.text_read.specs.Portions.{whole}
-use Rattle.replay_days.specs.Judged.{day_line, no_d, only_z, verdict}
+use Rattle.replay_days.specs.Judged.{day_line, no_d, only_z}
 use Rattle.replay_days.specs.Going.{
   Going,
   Part,
   byte_tells,
   comparing,
+  counted_verdict,
   day_after,
   differing,
   end_tells,
@@ -88,8 +89,8 @@ number_short : (n : ℕ) → length (dec_bytes n) ≤ 20
 unfolding dec_field
 number_short n = omega (arith, dec_field_lem n)
 
-verdict_short : (day : ℕ) (n : Option ℕ) → length (verdict day n) ≤ 64
-unfolding verdict day_line
+verdict_short : (day : ℕ) (n : Option ℕ) → length (counted_verdict day n) ≤ 64
+unfolding counted_verdict day_line
 verdict_short day None = simp length-append (omega (arith, number_short day, dec_field_lem 0))
 verdict_short day (Some zero) = simp length-append (omega (arith, number_short day, dec_field_lem 0))
 verdict_short day (Some (suc n)) = simp length-append (omega (arith, number_short day, dec_field_lem 1, dec_field_lem (suc n)))
@@ -100,7 +101,7 @@ ending_short day [] n = verdict_short day None
 ending_short day (m ∷ left) n = verdict_short day (Some n)
 
 compared_short : (day : ℕ) (left : List (List ℕ)) (n : ℕ) (z m : Bool)
-    → length (cond z (ending day left n) (cond m [] (verdict day (Some n)))) ≤ 64
+    → length (cond z (ending day left n) (cond m [] (counted_verdict day (Some n)))) ≤ 64
 compared_short day left n true m = ending_short day left n
 compared_short day left n false true = omega arith
 compared_short day left n false false = verdict_short day (Some n)

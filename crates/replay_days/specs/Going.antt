@@ -1,9 +1,10 @@
 -- `judged`, byte after byte, with no more kept than what is still needed: of the input its bytes, of the output its lines that have not been
 -- met yet. A day's line is told where the first line that differs has ended, or else where the day ends. Assumes nothing.
-use Rattle.std.specs.Prelude.{ℕ, ◌+◌, Bool, false, List, [], ◌∷◌, ◌++◌, None, Some, eqb, length}
+use Rattle.std.specs.Prelude.{ℕ, zero, suc, ◌+◌, Bool, false, List, [], ◌∷◌, ◌++◌, Option, None, Some, eqb, length}
 use Rattle.base_words.specs.Choice.{if◌then◌otherwise◌}
+use Rattle.text_digits.specs.Digits.{dec_field}
 use Rattle.text_output.specs.Output.{output}
-use Rattle.replay_days.specs.Judged.{lines_of, no_d, only_d, only_z, same, verdict}
+use Rattle.replay_days.specs.Judged.{day_line, lines_of, no_d, only_d, only_z, same}
 
 -- in a day's input; in its recorded output, where the output's lines `left` have not been met and the next has number n; or in its recorded
 -- output after a line that differs, which has been told
@@ -27,10 +28,16 @@ unfoldable pub rest_of : List (List ℕ) → List (List ℕ)
 rest_of [] = []
 rest_of (next ∷ left) = left
 
+-- a day's line, by the number of the line that differs, if one does. Lines are counted from 1: a line 0 is none, though what is carried may name it
+unfoldable pub counted_verdict : ℕ → Option ℕ → List ℕ
+counted_verdict day None = day_line day (dec_field 0)
+counted_verdict day (Some zero) = day_line day (dec_field 0)
+counted_verdict day (Some (suc n)) = day_line day (dec_field 1 ++ dec_field (suc n))
+
 -- the day's line where the recorded output ends: the same if no line is left, else the next one is missing
 unfoldable pub ending : ℕ → List (List ℕ) → ℕ → List ℕ
-ending day [] n = verdict day None
-ending day (missing ∷ left) n = verdict day (Some n)
+ending day [] n = counted_verdict day None
+ending day (missing ∷ left) n = counted_verdict day (Some n)
 
 -- the part after a line: of the same day, or of the next where the line ended the day
 unfoldable pub part_after : Part → List ℕ → Part
@@ -48,7 +55,7 @@ day_after day differing line = if only_z line then day + 1 otherwise day
 unfoldable pub line_tells : ℕ → Part → List ℕ → List ℕ
 line_tells day (reading input) line = []
 line_tells day (comparing left n) line =
-    if only_z line then ending day left n otherwise if meets line left then [] otherwise verdict day (Some n)
+    if only_z line then ending day left n otherwise if meets line left then [] otherwise counted_verdict day (Some n)
 line_tells day differing line = []
 
 -- what the end of the file tells, after whole lines

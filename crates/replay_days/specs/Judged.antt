@@ -1,5 +1,5 @@
 -- Document 02, E1: from the bytes of a file of recorded nights to the bytes that are written of it. Assumes nothing.
-use Rattle.std.specs.Prelude.{ℕ, zero, suc, ◌+◌, Bool, true, false, ◌&&◌, List, [], ◌∷◌, ◌++◌, Option, None, Some, eqb, length}
+use Rattle.std.specs.Prelude.{ℕ, ◌+◌, Bool, true, false, ◌&&◌, List, [], ◌∷◌, ◌++◌, Option, None, Some, eqb, length}
 use Rattle.base_words.specs.Choice.{if◌then◌otherwise◌}
 use Rattle.text_digits.specs.Digits.{dec_bytes, dec_field}
 use Rattle.text_output.specs.Output.{output}
@@ -41,9 +41,7 @@ day_line day fields = dec_bytes day ++ fields ++ (10 ∷ [])
 -- "0 if the recorded output is the same, otherwise 1 and the number of the first differing output line"
 unfoldable pub verdict : ℕ → Option ℕ → List ℕ
 verdict day None = day_line day (dec_field 0)
--- (lines are counted from 1: a line 0 is none)
-verdict day (Some zero) = day_line day (dec_field 0)
-verdict day (Some (suc n)) = day_line day (dec_field 1 ++ dec_field (suc n))
+verdict day (Some n) = day_line day (dec_field 1 ++ dec_field n)
 
 -- "It runs each input": the input's bytes, and the recorded lines
 unfoldable pub compared : ℕ → List ℕ → List (List ℕ) → List ℕ

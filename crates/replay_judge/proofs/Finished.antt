@@ -13,9 +13,9 @@ use Rattle.text_digits.specs.Digits.{dec_field}
 use Rattle.text_digits.specs.Wrote.{Wrote}
 use Rattle.text_digits.proofs.Lengths.{exact}
 use Rattle.text_digits.proofs.Then.{as_long, nothing, room, then}
-use Rattle.replay_days.specs.Judged.{day_line, judged, no_d, verdict}
+use Rattle.replay_days.specs.Judged.{day_line, judged, no_d}
 use Rattle.replay_days.specs.Going as going
-use Rattle.replay_days.specs.Going.{Going, end_tells, feeds, finish, line_ended, start}
+use Rattle.replay_days.specs.Going.{Going, counted_verdict, end_tells, feeds, finish, line_ended, start}
 use Rattle.replay_days.proofs.Bytes.{byte_by_byte}
 use Rattle.replay_days.proofs.Portions.{days_few, finish_short}
 use Rattle.replay_compare.specs.Spots.{end_number, shape_of}
@@ -77,7 +77,7 @@ module _ (j : Judge) (told : List ℕ) (at : ℕ) where
         (λ x v. rw (some_by (eqb (length x) 0) v.any z) w) q s)
 
   pub last_verdict : {p : Spot} {told' : List ℕ} {n : Option ℕ} {at' : ℕ} → j.part ≡ Comparing p → n ≡ end_number p
-      → Wrote told at (verdict j.day n) told' at' → EndsDay j told at told' at'
+      → Wrote told at (counted_verdict j.day n) told' at' → EndsDay j told at told' at'
   unfolding end_tells
   last_verdict {p} {told'} {n} {at'} e is w =
       ends_day (Comparing p) e (omega (arith, room w, as_long w))

@@ -9,9 +9,9 @@ use Rattle.std.specs.Prelude.{Option, None, Some}
 use Rattle.base_places.specs.Lengths.{largest, one_more}
 use Rattle.text_digits.specs.Wrote.{Wrote}
 use Rattle.text_digits.proofs.Then.{as_long, nothing, room}
-use Rattle.replay_days.specs.Judged.{only_z, verdict}
+use Rattle.replay_days.specs.Judged.{only_z}
 use Rattle.replay_days.specs.Going as going
-use Rattle.replay_days.specs.Going.{comparing, day_after, differing, line_ended, line_tells, meets, part_after, reading}
+use Rattle.replay_days.specs.Going.{comparing, counted_verdict, day_after, differing, line_ended, line_tells, meets, part_after, reading}
 use Rattle.replay_compare.specs.Spots.{end_number, holds_only, met_by, next_of, shape_of}
 use Rattle.replay_compare.specs.Meets.{Meets}
 use Rattle.replay_compare.specs.declared.LineSoFar.{LineSoFar}
@@ -120,7 +120,7 @@ module _ (day : ℕ) (line : LineSoFar) (input : Buffers) (out told : List ℕ) 
 module _ (day : ℕ) (line : LineSoFar) (p : Spot) (input : Buffers) (out told : List ℕ) (at : ℕ) where
   -- the Z
   pub at_z : {t : Bool} {told' : List ℕ} {after : ℕ} → t ≡ holds_only line 90 → t ≡ true
-      → Wrote told at (verdict day (end_number p)) told' after
+      → Wrote told at (counted_verdict day (end_number p)) told' after
       → PartEnds day line (Comparing p) input out told at (turned (next_day day) after) input out told'
   unfolding line_tells day_after part_after StandsPart
   at_z {t} {told'} {after} e f w =
@@ -165,7 +165,7 @@ module _ (day : ℕ) (line : LineSoFar) (p : Spot) (input : Buffers) (out told :
         }
 
     -- a line that differs
-    pub at_other : {told' : List ℕ} {after : ℕ} → None ≡ met_by p next line → Wrote told at (verdict day (Some p.number)) told' after
+    pub at_other : {told' : List ℕ} {after : ℕ} → None ≡ met_by p next line → Wrote told at (counted_verdict day (Some p.number)) told' after
         → PartEnds day line (Comparing p) input out told at
         (record { judge = record { day = day; line = Empty; part = Differing }; at = after }) input out told'
     unfolding line_tells day_after part_after StandsPart
@@ -192,7 +192,7 @@ module _ (day : ℕ) (line : LineSoFar) (p : Spot) (out told : List ℕ) (at : �
       part_ends (record { day = day; line = line; part = Comparing p }) input out told at r input out told' (e input)
 
   pub z_ends : {t : Bool} {r : Judge} {told' : List ℕ} {n : Option ℕ} {after : ℕ} → t ≡ holds_only line 90 → t ≡ true → n ≡ end_number p
-      → Wrote told at (verdict day n) told' after → r ≡ next_day day → EndsComparing day line p out told at (turned r after) told'
+      → Wrote told at (counted_verdict day n) told' after → r ≡ next_day day → EndsComparing day line p out told at (turned r after) told'
   z_ends e f n w r = ends_comparing (λ input. rw r (at_z day line p input out told at e f (rw n at w)))
 
   module _ {t : Bool} (e : t ≡ holds_only line 90) (f : t ≡ false) {next : Option (ℕ × ℕ)} (n : next ≡ next_of (take p.len out) p.at)
@@ -201,7 +201,7 @@ module _ (day : ℕ) (line : LineSoFar) (p : Spot) (out told : List ℕ) (at : �
         → EndsComparing day line p out told at (turned r at) told
     next_ends is r h = ends_comparing (λ input. rw r (at_next day line p input out told at e f n (sym is ∙ met) h))
 
-    pub other_ends : {told' : List ℕ} {after : ℕ} → meeting ≡ None → Wrote told at (verdict day (Some p.number)) told' after
+    pub other_ends : {told' : List ℕ} {after : ℕ} → meeting ≡ None → Wrote told at (counted_verdict day (Some p.number)) told' after
         → EndsComparing day line p out told at (record { judge = record { day = day; line = Empty; part = Differing }; at = after }) told'
     other_ends is w = ends_comparing (λ input. at_other day line p input out told at e f n (sym is ∙ met) w)
 

@@ -18,7 +18,7 @@ use base_places::{
 };
 use replay_compare::{
     LineSoFar, Spot, compare_run, end_number, holds_only, longer, met, next_byte, tell,
-    tell_verdict,
+    tell_counted_verdict,
 };
 use text_digits::Page;
 use text_fields::run_end;
@@ -147,13 +147,13 @@ fn end_comparing(day: usize, line: LineSoFar, p: Spot, out: &[u8], page: &mut Pa
     ensures same { SameBuffer page.old page.new }
 {
     if holds_only(line, b'Z') {
-        tell_verdict(page, day, end_number(p));
+        tell_counted_verdict(page, day, end_number(p));
         return next_day(day);
     }
     match met(p, next_byte(p, out), line) {
         Some(start) => next_line(day, p, start),
         None => {
-            tell_verdict(page, day, Some(p.number));
+            tell_counted_verdict(page, day, Some(p.number));
             Judge {
                 day,
                 line: LineSoFar::Empty,
@@ -293,7 +293,7 @@ fn end_day(j: Judge, page: &mut Page)
                 tell(page, j.day, 2);
             }
         }
-        Part::Comparing(p) => tell_verdict(page, j.day, end_number(p)),
+        Part::Comparing(p) => tell_counted_verdict(page, j.day, end_number(p)),
         Part::Differing => {}
     }
 }
